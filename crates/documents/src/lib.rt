@@ -1,0 +1,1 @@
+// Paths and documents: what obeying means, and checking a document.

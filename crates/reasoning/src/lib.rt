@@ -1,0 +1,1 @@
+// Walks, dead paths, evidence, and the documents handed back.
