@@ -1,0 +1,49 @@
+// Numbers in groups of seven bits, low group first, in at most two bytes.
+ghost use Prim.Native.Nat.{ℕ, _+_, _≤_, _<_};
+ghost use mathlib.Core.Path.{_≡_};
+ghost use lib.ListN.{length, drop};
+ghost use Rattle.files.specs.Number.{numberIn, twoBytes};
+
+// What bytes begin with: a number's value and how many bytes it takes, or the refusal, 1 or 2.
+pub enum Number {
+    Is(u32, usize),
+    Refused(u8),
+}
+
+fn wide(b: u8) -> u32
+    ensures { λ r. ⌜ (r ≡ b) × (r < 256) ⌝ }
+{
+    b as u32
+}
+
+// The second byte `high` of a number after the first, `low`, which says that another follows.
+fn second(low: u32, high: u32) -> Number
+    requires { ⌜ high < 256 ⌝ }
+    ensures { λ r. ⌜ r ≡ twoBytes low high ⌝ }
+{
+    if high == 0 {
+        return Number::Refused(2);
+    }
+    if 127 < high {
+        return Number::Refused(2);
+    }
+    Number::Is(low % 128 + high * 128, 2)
+}
+
+// The number at `at`.
+pub fn read_number(s: &[u8], at: usize) -> Number
+    ensures { λ r. ⌜ r ≡ numberIn (drop at (now (s .entry))) ⌝ }
+{
+    if s.len() <= at {
+        return Number::Refused(1);
+    }
+    let low = wide(s[at]);
+    if low < 128 {
+        return Number::Is(low, 1);
+    }
+    let next = at + 1;
+    if s.len() <= next {
+        return Number::Refused(1);
+    }
+    second(low, wide(s[next]))
+}
