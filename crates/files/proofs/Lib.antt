@@ -1,2 +1,3 @@
 -- The crate's laws.
+pub mod Formats
 pub mod Numbers
