@@ -1,3 +1,4 @@
 pub mod Format
 pub mod Number
+pub mod RuleFile
 pub mod Table
