@@ -1,7 +1,7 @@
 -- Laws of formats: what reading answers is exactly what the bytes are, both ways, for every format.
 use Prim.Native.Nat.{ℕ, zero, suc, _+_, _<_, _≤_}
 use mathlib.Core.Path.{_≡_, refl, sym, ap, ap₂, subst, _∙_}
-use mathlib.Core.Bool.{Bool, true, false}
+use mathlib.Core.Bool.{Bool, true, false, cond}
 use mathlib.Core.List.{List, [], _∷_, _++_, append-assoc, append-nil}
 use native.Mathlib.Omega.{arith}
 use native.Mathlib.Nat.{le-refl}
@@ -11,7 +11,7 @@ use lib.Dec.{ltb}
 use borrow.Author.Tests.{lt-ltb, le-ltb, ltb-true, ltb-false}
 use Rattle.files.specs.declared.number.Number.{Number}
 use Rattle.files.specs.declared.number.Number.the-variants.{Is, Refused}
-use Rattle.files.specs.Number.{limit, pick, bytesOf, bytesOfAll, numberIn, Cut, TooLong, Bytes, Begins, number, cut as begins-cut, long as begins-long}
+use Rattle.files.specs.Number.{limit, bytesOf, bytesOfAll, numberIn, Cut, TooLong, Bytes, Begins, number, cut as begins-cut, long as begins-long}
 use Rattle.files.specs.Format.{Format, done, want, andThen, Outcome, got, refused, run, atEnd, onTest, onNumber, runAll, Leads, here, take, Stops, cut, long, own, left, Accepted, RefusedAt}
 use Rattle.files.proofs.Numbers.{read-back, in-cut, in-long, begins}
 
@@ -145,7 +145,7 @@ module _ {A : Type 0} (f : Format A) (s : List ℕ) where
 
   -- what was read, when the rest of the file is looked at
   ended : (a a′ : A) (at : ℕ) (ns rest : List ℕ) (t : Bool) → ltb (0 + length (bytesOfAll ns)) (length s) ≡ t → Leads f ns (done a′) → s ≡ bytesOfAll ns ++ rest
-    → pick t (refused 11 (0 + length (bytesOfAll ns))) (got a′ (0 + length (bytesOfAll ns))) ≡ got a at → Accepted f s a × (at ≡ length s)
+    → cond t (refused 11 (0 + length (bytesOfAll ns))) (got a′ (0 + length (bytesOfAll ns))) ≡ got a at → Accepted f s a × (at ≡ length s)
   ended a a′ at ns rest true t l b e = absurd (let z : _≡_ {A = ℕ} 0 1 = cc in omega arith)
   ended a a′ at ns rest false t l b e =
       let same : a′ ≡ a = cc in
@@ -164,7 +164,7 @@ module _ {A : Type 0} (f : Format A) (s : List ℕ) where
       by (stopped ns rest t x l b st) e′ = absurd (let z : _≡_ {A = ℕ} 0 1 = cc in omega arith)
 
   leftover : (k at : ℕ) (a : A) (ns rest : List ℕ) (t : Bool) → ltb (0 + length (bytesOfAll ns)) (length s) ≡ t → Leads f ns (done a) → s ≡ bytesOfAll ns ++ rest
-    → pick t (refused 11 (0 + length (bytesOfAll ns))) (got a (0 + length (bytesOfAll ns))) ≡ refused k at → RefusedAt f s k at
+    → cond t (refused 11 (0 + length (bytesOfAll ns))) (got a (0 + length (bytesOfAll ns))) ≡ refused k at → RefusedAt f s k at
   leftover k at a ns [] true t l b e =
       absurd (omega (arith, ap length b ∙ length-append (bytesOfAll ns) [], ltb-true (0 + length (bytesOfAll ns)) (length s) t))
   leftover k at a ns (x ∷ rest) true t l b e =

@@ -1,3 +1,4 @@
 -- The crate's laws.
 pub mod Formats
 pub mod Numbers
+pub mod Reader

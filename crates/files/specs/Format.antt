@@ -1,12 +1,13 @@
 -- A file of numbers: what number is wanted next, which refusal it meets, and what reading answers.
 use Prim.Native.Nat.{ℕ, zero, suc, _+_, _<_}
 use mathlib.Core.Path.{_≡_}
+use mathlib.Core.Bool.{cond}
 use mathlib.Core.List.{List, [], _∷_, _++_}
 use lib.ListN.{length, drop}
 use lib.Dec.{ltb}
 use Rattle.files.specs.declared.number.Number.{Number}
 use Rattle.files.specs.declared.number.Number.the-variants.{Is, Refused}
-use Rattle.files.specs.Number.{limit, pick, bytesOf, bytesOfAll, numberIn, Cut, TooLong}
+use Rattle.files.specs.Number.{limit, bytesOf, bytesOfAll, numberIn, Cut, TooLong}
 
 -- a format: nothing more is wanted and a value stands; or a number is wanted, with its own test (0, or the number of the
 -- refusal that it meets) and the format of what follows it
@@ -41,7 +42,7 @@ run (want test next) at s = onNumber at test (λ n size. run (next n) (at + size
 
 -- nothing may stand after the last number (refusal 11 at the first leftover byte)
 unfoldable pub atEnd : {A : Type 0} → ℕ → Outcome A → Outcome A
-atEnd size (got a at) = pick (ltb at size) (refused 11 at) (got a at)
+atEnd size (got a at) = cond (ltb at size) (refused 11 at) (got a at)
 atEnd size (refused k at) = refused k at
 
 -- reading a whole file

@@ -1,4 +1,6 @@
 pub mod Format
 pub mod Number
+pub mod Reading
 pub mod RuleFile
+pub mod Rules
 pub mod Table

@@ -1,7 +1,7 @@
 -- Numbers as 01 lays them down: groups of seven bits, low group first, shortest form only.
 use Prim.Native.Nat.{ℕ, _+_, _*_, _/_, _%_, _<_, _≤_}
 use mathlib.Core.Path.{_≡_}
-use mathlib.Core.Bool.{Bool, true, false}
+use mathlib.Core.Bool.{cond}
 use mathlib.Core.List.{List, [], _∷_, _++_}
 use lib.ListN.{length, getD}
 use lib.Dec.{ltb, eqb}
@@ -12,14 +12,9 @@ use Rattle.files.specs.declared.number.Number.the-variants.{Is, Refused}
 abbrev pub limit : ℕ
 limit = 16384
 
--- the first where the test holds, else the second
-abbrev pub pick : {A : Type 0} → Bool → A → A → A
-pick true a b = a
-pick false a b = b
-
 -- the bytes of a number
 unfoldable pub bytesOf : ℕ → List ℕ
-bytesOf n = pick (ltb n 128) (n ∷ []) ((128 + n % 128) ∷ (n / 128) ∷ [])
+bytesOf n = cond (ltb n 128) (n ∷ []) ((128 + n % 128) ∷ (n / 128) ∷ [])
 
 -- the bytes of several numbers, one after the other
 unfoldable pub bytesOfAll : List ℕ → List ℕ
@@ -42,7 +37,7 @@ pub record Bytes (s : List ℕ) : Type 0 where
 
 -- the answer of a first byte that says that another follows, and the second byte
 unfoldable pub twoBytes : ℕ → ℕ → Number
-twoBytes low high = pick (eqb high 0) (Refused 2) (pick (ltb 127 high) (Refused 2) (Is (low % 128 + high * 128) 2))
+twoBytes low high = cond (eqb high 0) (Refused 2) (cond (ltb 127 high) (Refused 2) (Is (low % 128 + high * 128) 2))
 
 -- the answer of a first byte that says that another follows, and what stands after it
 unfoldable pub secondIn : ℕ → List ℕ → Number
@@ -52,7 +47,7 @@ secondIn low (high ∷ rest) = twoBytes low high
 -- the number that bytes begin with, and how many of them it takes, or its refusal
 unfoldable pub numberIn : List ℕ → Number
 numberIn [] = Refused 1
-numberIn (low ∷ rest) = pick (ltb low 128) (Is low 1) (secondIn low rest)
+numberIn (low ∷ rest) = cond (ltb low 128) (Is low 1) (secondIn low rest)
 
 -- the three things that bytes can begin with, each with its answer
 pub data Begins : List ℕ → Number → Type 0 where

@@ -1,16 +1,16 @@
 -- The rule file: its numbers in order, and the refusal that each may meet.
 use Prim.Native.Nat.{ℕ, zero, suc, pred, _+_, _*_}
-use mathlib.Core.Bool.{Bool, true, false}
+use mathlib.Core.Bool.{Bool, true, false, cond}
 use mathlib.Core.List.{List, [], _∷_, _++_}
 use lib.ListN.{length, getD}
 use lib.Dec.{ltb, leb, eqb}
-use Rattle.files.specs.Number.{pick, bytesOfAll}
+use Rattle.files.specs.Number.{bytesOfAll}
 use Rattle.files.specs.Format.{Format, done, want, andThen}
 use Rattle.files.specs.Table.{Path, Rule, RuleSet}
 
 -- the test of a number that stands from `low` up to and without `past`; else the refusal
 unfoldable pub between : ℕ → ℕ → ℕ → ℕ → ℕ
-between low past refusal n = pick (leb low n) (pick (ltb n past) 0 refusal) refusal
+between low past refusal n = cond (leb low n) (cond (ltb n past) 0 refusal) refusal
 
 -- the test of a number that has none of its own
 abbrev pub any : ℕ → ℕ
@@ -27,16 +27,16 @@ depths ps = deeper (1 ∷ []) ps
 
 -- the test of a parent: 4 where it is not below the path's own number, 5 where the depth would be 9
 unfoldable pub parentTest : List ℕ → ℕ → ℕ → ℕ
-parentTest ds own p = pick (ltb p own) (pick (ltb (getD ds p 0) 8) 0 5) 4
+parentTest ds own p = cond (ltb p own) (cond (ltb (getD ds p 0) 8) 0 5) 4
 
 -- whether parent and label are those of some path
 unfoldable pub repeats : List Path → ℕ → ℕ → Bool
 repeats [] p l = false
-repeats (x ∷ ps) p l = pick (eqb (x .parent) p) (pick (eqb (x .label) l) true (repeats ps p l)) (repeats ps p l)
+repeats (x ∷ ps) p l = cond (eqb (x .parent) p) (cond (eqb (x .label) l) true (repeats ps p l)) (repeats ps p l)
 
 -- the test of a label: 6 where parent and label repeat an earlier path's
 unfoldable pub labelTest : List Path → ℕ → ℕ → ℕ
-labelTest ps p l = pick (repeats ps p l) 6 0
+labelTest ps p l = cond (repeats ps p l) 6 0
 
 -- one path, after the paths ps
 unfoldable pub onePath : List Path → Format Path

@@ -1,2 +1,4 @@
 // Numbers, sets of paths, the rule table, and rule files in and out.
 pub mod number;
+pub mod read;
+pub mod rules;

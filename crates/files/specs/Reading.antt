@@ -1,0 +1,18 @@
+-- What the functions of the reader answer.
+use Prim.Native.Nat.{ℕ, zero, suc, _+_, _≤_, _<_}
+use mathlib.Core.Path.{_≡_}
+use mathlib.Core.List.{List, []}
+use lib.ListN.{length, drop}
+use Rattle.files.specs.declared.number.Number.{Number}
+use Rattle.files.specs.declared.number.Number.the-variants.{Is, Refused}
+use Rattle.files.specs.Number.{limit, numberIn}
+
+-- a number where its test says 0, else that refusal
+unfoldable pub passed : ℕ → ℕ → ℕ → Number
+passed n size zero = Is n size
+passed n size (suc k) = Refused (suc k)
+
+-- what stands where a number with a test is wanted: the number if it passes, or the refusal
+unfoldable pub tested : (ℕ → ℕ) → Number → Number
+tested test (Is n size) = passed n size (test n)
+tested test (Refused k) = Refused k
