@@ -4,13 +4,16 @@ use mathlib.Core.Path.{_≡_, refl, sym, ap, ap₂, subst, _∙_}
 use mathlib.Core.Bool.{Bool, true, false, cond}
 use mathlib.Core.List.{List, [], _∷_, _++_}
 use native.Mathlib.Omega.{arith}
+use native.Mathlib.Numerals.{add-one}
 use lib.ListN.{length, getD, drop, length-append}
-use lib.Dec.{ltb, leb}
-use borrow.Author.Tests.{lt-ltb, le-ltb, le-leb, lt-leb, ltb-true, ltb-false}
+use lib.Dec.{ltb, leb, eqb}
+use borrow.Author.Tests.{eq-eqb, ne-eqb, lt-ltb, le-ltb, le-leb, lt-leb, ltb-true, ltb-false}
 use Rattle.files.specs.declared.number.Number.{Number}
 use Rattle.files.specs.declared.number.Number.the-variants.{Is, Refused}
 use Rattle.files.specs.Number.{numberIn}
-use Rattle.files.specs.RuleFile.{between}
+use Rattle.files.specs.RuleFile.{between, sameChild, repeats}
+use Rattle.files.specs.Rules.{pathsFrom}
+use Rattle.files.specs.Table.{Path}
 use Rattle.files.specs.Reading.{passed, tested}
 
 -- a number between two others passes, one outside meets its refusal
@@ -41,3 +44,38 @@ module _ (test : ℕ → ℕ) (r : Number) (t : List ℕ) (e : r ≡ numberIn t)
   tested-is f g = rw (← e, f, g)
 
 pub ruleset between-laws = (between-low, between-past, between-in, tested-bad, tested-own, tested-is)
+
+pub same-parent : (parent label p l : ℕ) → parent ≡ p → eqb label l ≡ sameChild parent label p l
+unfolding sameChild
+same-parent parent label p l e = rw (eq-eqb parent p e)
+
+pub other-parent : (parent label p l : ℕ) → (parent ≡ p → ⊥) → false ≡ sameChild parent label p l
+unfolding sameChild
+other-parent parent label p l e = rw (ne-eqb parent p e)
+
+pub ruleset child-laws = (same-parent, other-parent)
+
+-- the paths from x on begin with path x
+pub paths-step : (parent label : List ℕ) (x own : ℕ) → x < own
+    → pathsFrom parent label x (own - x) ≡ record { parent = getD parent x 0; label = getD label x 0 } ∷ pathsFrom parent label (x + 1) (own - (x + 1))
+unfolding pathsFrom
+paths-step parent label x own h = rw (let e : own - x ≡ suc (own - (x + 1)) = omega arith in e)
+
+module _ (parent label : List ℕ) (x own p l : ℕ) (w t : Bool) (a : ℕ)
+    (inv : repeats (pathsFrom parent label x (own - x)) p l ≡ w)
+    (here : a ≡ getD parent x 0)
+    (is : t ≡ sameChild a (getD label x 0) p l)
+    (h : x < own) where
+  pub repeats-here : t ≡ true → true ≡ w
+  unfolding repeats
+  repeats-here e = rw (paths-step parent label x own h, ← here, ← is, e) at inv
+
+  pub repeats-on : t ≡ false → repeats (pathsFrom parent label (x + 1) (own - (x + 1))) p l ≡ w
+  unfolding repeats
+  repeats-on e = rw (paths-step parent label x own h, ← here, ← is, e) at inv
+
+pub repeats-end : (parent label : List ℕ) (x own p l : ℕ) (w : Bool) → repeats (pathsFrom parent label x (own - x)) p l ≡ w → own ≤ x → false ≡ w
+unfolding repeats pathsFrom
+repeats-end parent label x own p l w inv h = rw (let e : own - x ≡ 0 = omega arith in e) at inv
+
+pub ruleset repeats-laws = (repeats-here, repeats-on, repeats-end)

@@ -29,10 +29,14 @@ depths ps = deeper (1 ∷ []) ps
 unfoldable pub parentTest : List ℕ → ℕ → ℕ → ℕ
 parentTest ds own p = cond (ltb p own) (cond (ltb (getD ds p 0) 8) 0 5) 4
 
+-- whether a path has this parent and this label
+unfoldable pub sameChild : ℕ → ℕ → ℕ → ℕ → Bool
+sameChild parent label p l = cond (eqb parent p) (eqb label l) false
+
 -- whether parent and label are those of some path
 unfoldable pub repeats : List Path → ℕ → ℕ → Bool
 repeats [] p l = false
-repeats (x ∷ ps) p l = cond (eqb (x .parent) p) (cond (eqb (x .label) l) true (repeats ps p l)) (repeats ps p l)
+repeats (x ∷ ps) p l = cond (sameChild (x .parent) (x .label) p l) true (repeats ps p l)
 
 -- the test of a label: 6 where parent and label repeat an earlier path's
 unfoldable pub labelTest : List Path → ℕ → ℕ → ℕ
