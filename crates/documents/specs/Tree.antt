@@ -29,7 +29,7 @@ pub data NodeHolds (x : ℕ) (under : Forest) (y : ℕ) : Type 0 where
 pub data Under (parent : ℕ → ℕ) (count : ℕ) : ℕ → Forest → Type 0 where
   nothing : {p : ℕ} → Under parent count p none
   child : {p x : ℕ} {kids rest : Forest} → 0 < x → x < count → parent x ≡ p
-    → Under parent count x kids → Under parent count p rest → Under parent count p (tree x kids rest)
+      → Under parent count x kids → Under parent count p rest → Under parent count p (tree x kids rest)
 
 -- a document of the table: one root node, on path 0, and what may stand under it
 pub data Document (parent : ℕ → ℕ) (count : ℕ) : Forest → Type 0 where

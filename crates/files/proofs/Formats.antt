@@ -26,7 +26,7 @@ module _ {A : Type 0} (test : ℕ → ℕ) (next : ℕ → Format A) where
   run-own at s n size k e t = rw (e, t)
 
   pub run-next : (at : ℕ) (s : List ℕ) (n size : ℕ) → numberIn s ≡ Is n size → test n ≡ 0
-    → run (want test next) at s ≡ run (next n) (at + size) (drop size s)
+      → run (want test next) at s ≡ run (next n) (at + size) (drop size s)
   unfolding run onNumber onTest
   run-next at s n size e t = rw (e, t)
 
@@ -44,11 +44,14 @@ run-then (want test next) g s at = by (numberIn (drop at s)) refl (λ n. run-the
   where
     Goal : Type 0
     Goal = run (andThen (want test next) g) at (drop at s) ≡ onward g s (run (want test next) at (drop at s))
+
     IH : Type 0
     IH = (n k : ℕ) → run (andThen (next n) g) k (drop k s) ≡ onward g s (run (next n) k (drop k s))
+
     tested : (n size m : ℕ) → numberIn (drop at s) ≡ Is n size → test n ≡ m → IH → Goal
     tested n size zero e t ih = rw (e, t, drop-drop size at s) (ih n (at + size))
     tested n size (suc m) e t ih = rw (e, t)
+
     by : (r : Number) → numberIn (drop at s) ≡ r → IH → Goal
     by (Is n size) e ih = tested n size (test n) e refl ih
     by (Refused k) e ih = rw e
@@ -78,7 +81,7 @@ run-stops (left {a} {b} {s}) at size e = rw (lt-ltb at size (omega (arith, e)))
 pub data Ran {A : Type 0} (f : Format A) (at : ℕ) (s : List ℕ) : Outcome A → Type 0 where
   ran : {a : A} (ns rest : List ℕ) → Leads f ns (done a) → s ≡ bytesOfAll ns ++ rest → Ran f at s (got a (at + length (bytesOfAll ns)))
   stopped : {k : ℕ} (ns rest : List ℕ) (test : ℕ → ℕ) (next : ℕ → Format A) → Leads f ns (want test next) → s ≡ bytesOfAll ns ++ rest
-    → Stops (want test next) rest k → Ran f at s (refused k (at + length (bytesOfAll ns)))
+      → Stops (want test next) rest k → Ran f at s (refused k (at + length (bytesOfAll ns)))
 
 bytes-after : (p q : List ℕ) → Bytes (p ++ q) → Bytes q
 bytes-after p q bs = record { below = λ i. rw (← getD-append-add p q i 0) (bs .below (length p + i)) }
@@ -106,14 +109,16 @@ run-ran {A} (want test next) at s bs = by (begins s bs) bs (λ n. run-ran (next 
   where
     IH : Type 0
     IH = (n k : ℕ) (r : List ℕ) → Bytes r → Ran (next n) k r (run (next n) k r)
+
     tested : (n m : ℕ) (rest : List ℕ) → n < limit → test n ≡ m → Bytes (bytesOf n ++ rest) → IH
-      → Ran (want test next) at (bytesOf n ++ rest) (run (want test next) at (bytesOf n ++ rest))
+        → Ran (want test next) at (bytesOf n ++ rest) (run (want test next) at (bytesOf n ++ rest))
     tested n zero rest small ok bs′ ih =
         rw (run-next test next at (bytesOf n ++ rest) n (length (bytesOf n)) (read-back n rest small) ok, drop-append-seam (bytesOf n) rest)
         (ran-more test next n small ok rest at _ (ih n (at + length (bytesOf n)) rest (bytes-after (bytesOf n) rest bs′)))
     tested n (suc m) rest small e bs′ ih =
         rw (run-own test next at (bytesOf n ++ rest) n (length (bytesOf n)) m (read-back n rest small) e)
         (ran-stop test next at _ (suc m) (own rest small refl e))
+
     by : {t : List ℕ} {r : Number} → Begins t r → Bytes t → IH → Ran (want test next) at t (run (want test next) at t)
     by (number {n} rest small) bs′ ih = tested n (test n) rest small refl bs′ ih
     by (begins-cut {s = t} c) bs′ ih = rw (run-bad test next at t 1 (in-cut c)) (ran-stop test next at t 1 (cut c))
@@ -130,7 +135,7 @@ module _ {A : Type 0} (f : Format A) (s : List ℕ) where
   unfolding runAll run atEnd
   accepted-if a h =
       let e : run f 0 s ≡ got a (length s) =
-        ap (run f 0) (h .bytes ∙ sym (append-nil _)) ∙ run-leads (h .leads) 0 [] ∙ ap (got a) (omega (arith, ap length (h .bytes))) in
+      ap (run f 0) (h .bytes ∙ sym (append-nil _)) ∙ run-leads (h .leads) 0 [] ∙ ap (got a) (omega (arith, ap length (h .bytes))) in
       rw (e, le-ltb (length s) (length s) (le-refl (length s)))
 
   pub refused-if : (k at : ℕ) → RefusedAt f s k at → runAll f s ≡ refused k at
@@ -145,7 +150,7 @@ module _ {A : Type 0} (f : Format A) (s : List ℕ) where
 
   -- what was read, when the rest of the file is looked at
   ended : (a a′ : A) (at : ℕ) (ns rest : List ℕ) (t : Bool) → ltb (0 + length (bytesOfAll ns)) (length s) ≡ t → Leads f ns (done a′) → s ≡ bytesOfAll ns ++ rest
-    → cond t (refused 11 (0 + length (bytesOfAll ns))) (got a′ (0 + length (bytesOfAll ns))) ≡ got a at → Accepted f s a × (at ≡ length s)
+      → cond t (refused 11 (0 + length (bytesOfAll ns))) (got a′ (0 + length (bytesOfAll ns))) ≡ got a at → Accepted f s a × (at ≡ length s)
   ended a a′ at ns rest true t l b e = absurd (let z : _≡_ {A = ℕ} 0 1 = cc in omega arith)
   ended a a′ at ns rest false t l b e =
       let same : a′ ≡ a = cc in
@@ -164,7 +169,7 @@ module _ {A : Type 0} (f : Format A) (s : List ℕ) where
       by (stopped ns rest t x l b st) e′ = absurd (let z : _≡_ {A = ℕ} 0 1 = cc in omega arith)
 
   leftover : (k at : ℕ) (a : A) (ns rest : List ℕ) (t : Bool) → ltb (0 + length (bytesOfAll ns)) (length s) ≡ t → Leads f ns (done a) → s ≡ bytesOfAll ns ++ rest
-    → cond t (refused 11 (0 + length (bytesOfAll ns))) (got a (0 + length (bytesOfAll ns))) ≡ refused k at → RefusedAt f s k at
+      → cond t (refused 11 (0 + length (bytesOfAll ns))) (got a (0 + length (bytesOfAll ns))) ≡ refused k at → RefusedAt f s k at
   leftover k at a ns [] true t l b e =
       absurd (omega (arith, ap length b ∙ length-append (bytesOfAll ns) [], ltb-true (0 + length (bytesOfAll ns)) (length s) t))
   leftover k at a ns (x ∷ rest) true t l b e =

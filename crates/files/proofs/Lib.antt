@@ -2,3 +2,7 @@
 pub mod Formats
 pub mod Numbers
 pub mod Reader
+pub mod SetBits
+pub mod SetLowest
+pub mod SetMembers
+mod SetWords

@@ -53,14 +53,14 @@ runAll f s = atEnd (length s) (run f 0 s)
 pub data Leads {A : Type 0} : Format A → List ℕ → Format A → Type 0 where
   here : {f : Format A} → Leads f [] f
   take : {test : ℕ → ℕ} {next : ℕ → Format A} {n : ℕ} {ns : List ℕ} {f : Format A}
-    → n < limit → test n ≡ 0 → Leads (next n) ns f → Leads (want test next) (n ∷ ns) f
+      → n < limit → test n ≡ 0 → Leads (next n) ns f → Leads (want test next) (n ∷ ns) f
 
 -- why reading stops with refusal k where a format is wanted and the bytes `s` are left
 pub data Stops {A : Type 0} : Format A → List ℕ → ℕ → Type 0 where
   cut : {test : ℕ → ℕ} {next : ℕ → Format A} {s : List ℕ} → Cut s → Stops (want test next) s 1
   long : {test : ℕ → ℕ} {next : ℕ → Format A} {s : List ℕ} → TooLong s → Stops (want test next) s 2
   own : {test : ℕ → ℕ} {next : ℕ → Format A} {n k : ℕ} {s : List ℕ} (rest : List ℕ)
-    → n < limit → s ≡ bytesOf n ++ rest → test n ≡ suc k → Stops (want test next) s (suc k)
+      → n < limit → s ≡ bytesOf n ++ rest → test n ≡ suc k → Stops (want test next) s (suc k)
   left : {a : A} {b : ℕ} {s : List ℕ} → Stops (done a) (b ∷ s) 11
 
 -- a file is accepted with a value: it is exactly the bytes of numbers that lead to it

@@ -3,4 +3,6 @@ pub mod Number
 pub mod Reading
 pub mod RuleFile
 pub mod Rules
+pub mod Sets
 pub mod Table
+pub mod Writing

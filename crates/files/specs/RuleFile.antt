@@ -42,9 +42,13 @@ repeats (x ∷ ps) p l = cond (sameChild (x .parent) (x .label) p l) true (repea
 unfoldable pub labelTest : List Path → ℕ → ℕ → ℕ
 labelTest ps p l = cond (repeats ps p l) 6 0
 
+-- the label of a path with parent p, after the paths ps
+unfoldable pub pathLabel : List Path → ℕ → Format Path
+pathLabel ps p = want (labelTest ps p) (λ l. done (record { parent = p; label = l }))
+
 -- one path, after the paths ps
 unfoldable pub onePath : List Path → Format Path
-onePath ps = want (parentTest (depths ps) (1 + length ps)) (λ p. want (labelTest ps p) (λ l. done (record { parent = p; label = l })))
+onePath ps = want (parentTest (depths ps) (1 + length ps)) (λ p. pathLabel ps p)
 
 -- so many paths more, after the paths ps
 unfoldable pub morePaths : ℕ → List Path → Format (List Path)

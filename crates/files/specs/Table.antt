@@ -4,6 +4,7 @@ use mathlib.Core.Path.{_≡_}
 use mathlib.Core.List.{List, [], _∷_, map, List·Memᴰ}
 use lib.ListN.{length, getD}
 use Rattle.files.specs.Number.{limit}
+use Rattle.files.specs.Sets.{Ascending}
 
 -- a path other than the root: its parent's number and its label
 pub record Path : Type 0 where
@@ -45,11 +46,6 @@ pub data Depth (ps : List Path) : ℕ → ℕ → Type 0 where
   root : Depth ps 0 1
   under : {x d : ℕ} → 0 < x → Depth ps (parentIn ps x) d → Depth ps x (suc d)
 
--- the numbers ascend strictly, from above `last`
-pub data Ascending : ℕ → List ℕ → Type 0 where
-  none : {last : ℕ} → Ascending last []
-  more : {last x : ℕ} {xs : List ℕ} → last < x → Ascending x xs → Ascending last (x ∷ xs)
-
 -- a table that breaks no condition of 01
 pub record Valid (r : RuleSet) : Type 0 where
   -- 1 to 64 paths, the root among them
@@ -60,11 +56,11 @@ pub record Valid (r : RuleSet) : Type 0 where
   pub depth : (x d : ℕ) → x < 1 + length (r .paths) → Depth (r .paths) x d → d ≤ 8
   -- no two paths share both parent and label
   pub distinct : (x y : ℕ) → 0 < x → x < y → y < 1 + length (r .paths) → parentIn (r .paths) x ≡ parentIn (r .paths) y
-    → getD (labels (r .root) (r .paths)) x 0 ≡ getD (labels (r .root) (r .paths)) y 0 → ⊥
+      → getD (labels (r .root) (r .paths)) x 0 ≡ getD (labels (r .root) (r .paths)) y 0 → ⊥
   -- labels are numbers of the file
   pub label : (x : ℕ) → x < 1 + length (r .paths) → getD (labels (r .root) (r .paths)) x 0 < limit
   -- required paths ascend strictly, the root is none of them, and each is in the table
-  pub required : Ascending 0 (r .required)
+  pub required : Ascending 1 (r .required)
   pub present : (x : ℕ) → List·Memᴰ x (r .required) → x < 1 + length (r .paths)
   -- at most 256 rules, each of kind 1, 2 or 3 over paths of the table
   pub rules : length (r .rules) ≤ 256

@@ -2,3 +2,5 @@
 pub mod number;
 pub mod read;
 pub mod rules;
+pub mod sets;
+pub mod write;

@@ -2,17 +2,15 @@
 ghost use Prim.Native.Nat.{ℕ, pred, _+_, _-_, _≤_, _<_};
 ghost use mathlib.Core.Path.{_≡_};
 ghost use mathlib.Core.List.{List, [], _∷_};
-ghost use lib.ListN.{length, drop};
+ghost use lib.ListN.{length, drop, getD};
 ghost use Rattle.files.specs.Number.{numberIn};
 ghost use Rattle.files.specs.Format.{run, atEnd};
 ghost use Rattle.files.specs.RuleFile.{between, sameChild, repeats};
 ghost use Rattle.files.specs.Rules.{pathsFrom, padded};
 ghost use Rattle.files.specs.Reading.{tested};
-
 use crate::number::Number;
 use crate::number::read_number;
 use crate::rules::Rules;
-
 
 // One path: its parent, its label, its depth and the place after it.
 enum OnePath {

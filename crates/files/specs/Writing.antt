@@ -1,0 +1,68 @@
+-- Writing a rule file: the test behind refusal 12, and what the answer and the buffer are.
+use Prim.Native.Nat.{ℕ, zero, suc, _+_, _-_, _<_, _≤_}
+use mathlib.Core.Path.{_≡_}
+use mathlib.Core.Bool.{Bool, true, false, cond}
+use mathlib.Core.List.{List, [], _∷_, _++_}
+use lib.ListN.{length, getD, drop}
+use lib.Dec.{ltb, leb, eqb}
+use Rattle.files.specs.declared.rules.Rules.{Rules}
+use Rattle.files.specs.declared.write.Written.{Written}
+use Rattle.files.specs.declared.write.Written.the-variants.{Length, Refused}
+use Rattle.files.specs.Number.{limit, bytesOfAll}
+use Rattle.files.specs.RuleFile.{between, parentTest, labelTest, depths, fileOf}
+use Rattle.files.specs.Rules.{rulesOf, pathsFrom, rulesFrom}
+use Rattle.files.specs.Sets.{common, difference, belowAll}
+use Rattle.files.specs.Table.{Path, Rule}
+
+-- both tests hold
+abbrev pub both : Bool → Bool → Bool
+both a b = cond a b false
+
+-- a path's parent and label pass their tests after the paths ps, and its label is a number of the file
+unfoldable pub pathPasses : List Path → Path → Bool
+pathPasses ps p =
+    both (eqb (parentTest (depths ps) (1 + length ps) (p .parent)) 0) (both (eqb (labelTest ps (p .parent) (p .label)) 0) (ltb (p .label) limit))
+
+-- so do all the paths that follow ps
+unfoldable pub pathsPass : List Path → List Path → Bool
+pathsPass ps [] = true
+pathsPass ps (p ∷ rest) = both (pathPasses ps p) (pathsPass (ps ++ (p ∷ [])) rest)
+
+-- a rule's kind and sides pass their tests in a table of `count` paths
+unfoldable pub rulePasses : ℕ → Rule → Bool
+rulePasses count ru =
+    both (eqb (between 1 4 9 (ru .kind)) 0) (both (eqb (between 0 count 10 (ru .left)) 0) (eqb (between 0 count 10 (ru .right)) 0))
+
+-- so do all of them
+unfoldable pub rulesPass : ℕ → List Rule → Bool
+rulesPass count [] = true
+rulesPass count (ru ∷ rest) = both (rulePasses count ru) (rulesPass count rest)
+
+-- the required paths are in the table, and the root is none of them
+unfoldable pub requiredPass : ℕ → ℕ → Bool
+requiredPass count w = both (eqb (common w 1) 0) (eqb (difference w (belowAll count)) 0)
+
+-- the test behind refusal 12
+unfoldable pub tablePasses : Rules → Bool
+tablePasses t =
+    both (eqb (between 1 65 3 (t .paths)) 0)
+    (both (ltb (getD (t .label) 0 0) limit)
+    (both (pathsPass [] (pathsFrom (t .parent) (t .label) 1 (t .paths - 1)))
+    (both (requiredPass (t .paths) (t .required))
+    (both (eqb (between 0 257 8 (t .rules)) 0) (rulesPass (t .paths) (rulesFrom (t .kind) (t .left) (t .right) 0 (t .rules)))))))
+
+-- an answer with what the lent buffer then holds
+pub record Put : Type 0 where
+  pub answer : Written
+  pub buffer : List ℕ
+
+-- bytes put into a lent buffer: refusal 20 where they are longer than it, and it stays as it was; else they fill its start
+unfoldable pub put : List ℕ → List ℕ → Put
+put bytes out =
+    cond (leb (length bytes) (length out))
+    (record { answer = Length (length bytes); buffer = bytes ++ drop (length bytes) out })
+    (record { answer = Refused 20 0; buffer = out })
+
+-- what writing a table into a lent buffer answers and leaves: refusal 12 first
+unfoldable pub writeAnswer : Rules → List ℕ → Put
+writeAnswer t out = cond (tablePasses t) (put (fileOf (rulesOf t)) out) (record { answer = Refused 12 0; buffer = out })
