@@ -5,12 +5,14 @@ ghost use mathlib.Core.List.{List, [], _∷_};
 ghost use lib.ListN.{length, drop, getD};
 ghost use Rattle.files.specs.Number.{numberIn};
 ghost use Rattle.files.specs.Format.{run, atEnd};
-ghost use Rattle.files.specs.RuleFile.{between, sameChild, repeats};
+ghost use Rattle.files.specs.RuleFile.{between, sameChild, repeats, parentTest, pathLabel, onePath, depths};
 ghost use Rattle.files.specs.Rules.{pathsFrom, padded};
-ghost use Rattle.files.specs.Reading.{tested};
+ghost use Rattle.files.specs.Reading.{tested, pathAnswer};
+
 use crate::number::Number;
 use crate::number::read_number;
 use crate::rules::Rules;
+
 
 // One path: its parent, its label, its depth and the place after it.
 enum OnePath {
@@ -123,4 +125,68 @@ fn repeats(parent: &[u8; 64], label: &[u32; 64], own: usize, p: u32, l: u32) -> 
         x += 1;
     }
     false
+}
+
+// The test of a parent: 4, 5, or 0 where it passes.
+fn parent_test(depth: &[u8; 64], own: usize, p: u32) -> u8
+    requires { ⌜ own ≤ 64 ⌝ }
+    ensures { λ r. ⌜ r ≡ parentTest (now (depth .entry)) own p ⌝ }
+{
+    let x = wide_number(p);
+    if x < own {
+        if wide(depth[x]) < 8 {
+            return 0;
+        }
+        return 5;
+    }
+    4
+}
+
+// The label of path `own`, whose parent `p` passed its test, and the path.
+fn read_label(
+    s: &[u8],
+    at: usize,
+    own: usize,
+    p: u32,
+    parent: &[u8; 64],
+    label: &[u32; 64],
+    depth: &[u8; 64],
+) -> OnePath
+    requires { ⌜ (1 ≤ own) × (own ≤ 64) × (p < own) × (getD (now depth) p 0 < 8) ⌝ }
+    ensures { λ r. ⌜ r ≡ pathAnswer (now (depth .entry)) (run (pathLabel (pathsFrom (now (parent .entry)) (now (label .entry)) 1 (own - 1)) p) at (drop at (now (s .entry)))) ⌝ }
+{
+    match read_number(s, at) {
+        Number::Refused(why) => OnePath::Refused(why, at),
+        Number::Is(l, size) => {
+            if repeats(parent, label, own, p, l) {
+                return OnePath::Refused(6, at);
+            }
+            let x = wide_number(p);
+            OnePath::Is((p % 256) as u8, l, depth[x] + 1, at + size)
+        }
+    }
+}
+
+// Path `own`, after those in the arrays.
+fn read_path(
+    s: &[u8],
+    at: usize,
+    own: usize,
+    parent: &[u8; 64],
+    label: &[u32; 64],
+    depth: &[u8; 64],
+) -> OnePath
+    requires { ⌜ (1 ≤ own) × (own ≤ 64) × (now depth ≡ padded 64 (depths (pathsFrom (now parent) (now label) 1 (own - 1)))) ⌝ }
+    ensures { λ r. ⌜ r ≡ pathAnswer (now (depth .entry)) (run (onePath (pathsFrom (now (parent .entry)) (now (label .entry)) 1 (own - 1))) at (drop at (now (s .entry)))) ⌝ }
+{
+    match read_number(s, at) {
+        Number::Refused(why) => OnePath::Refused(why, at),
+        Number::Is(p, size) => {
+            let why = parent_test(depth, own, p);
+            if 0 < why {
+                return OnePath::Refused(why, at);
+            }
+            read_label(s, at + size, own, p, parent, label, depth)
+        }
+    }
 }
