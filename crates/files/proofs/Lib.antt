@@ -1,6 +1,7 @@
 -- The crate's laws.
 pub mod Formats
 pub mod Numbers
+pub mod Padded
 pub mod Reader
 pub mod SetBits
 pub mod SetLowest
