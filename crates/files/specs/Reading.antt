@@ -6,9 +6,12 @@ use lib.ListN.{length, drop, getD}
 use Rattle.files.specs.declared.number.Number.{Number}
 use Rattle.files.specs.declared.number.Number.the-variants.{Is, Refused}
 use Rattle.files.specs.declared.read.OnePath.{OnePath}
+use Rattle.files.specs.declared.read.Paths.{Paths}
+use Rattle.files.specs.declared.read.Section.{Section}
+use Rattle.files.specs.Rules.{padded}
 use Rattle.files.specs.Number.{limit, numberIn}
 use Rattle.files.specs.Format.{Outcome, got, refused}
-use Rattle.files.specs.Table.{Path}
+use Rattle.files.specs.Table.{Path, parents, labels}
 
 -- a number where its test says 0, else that refusal
 unfoldable pub passed : ℕ → ℕ → ℕ → Number
@@ -24,3 +27,8 @@ tested test (Refused k) = Refused k
 unfoldable pub pathAnswer : List ℕ → Outcome Path → OnePath
 pathAnswer depth (got p next) = OnePath.Is (p .parent) (p .label) (1 + getD depth (p .parent) 0) next
 pathAnswer depth (refused k at) = OnePath.Refused k at
+
+-- the paths that were read, in their arrays; of a refusal the arrays are empty
+unfoldable pub pathsAnswer : ℕ → Outcome (List Path) → Paths
+pathsAnswer root (got ps next) = record { end = Section.Read next; parent = padded 64 (parents ps); label = padded 64 (labels root ps) }
+pathsAnswer root (refused k at) = record { end = Section.Refused k at; parent = padded 64 []; label = padded 64 [] }

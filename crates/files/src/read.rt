@@ -5,9 +5,9 @@ ghost use mathlib.Core.List.{List, [], _∷_};
 ghost use lib.ListN.{length, drop, getD};
 ghost use Rattle.files.specs.Number.{numberIn};
 ghost use Rattle.files.specs.Format.{run, atEnd};
-ghost use Rattle.files.specs.RuleFile.{between, sameChild, repeats, parentTest, pathLabel, onePath, depths};
+ghost use Rattle.files.specs.RuleFile.{between, sameChild, repeats, parentTest, pathLabel, onePath, morePaths, depths};
 ghost use Rattle.files.specs.Rules.{pathsFrom, padded};
-ghost use Rattle.files.specs.Reading.{tested, pathAnswer};
+ghost use Rattle.files.specs.Reading.{tested, pathAnswer, pathsAnswer};
 
 use crate::number::Number;
 use crate::number::read_number;
@@ -188,5 +188,42 @@ fn read_path(
             }
             read_label(s, at + size, own, p, parent, label, depth)
         }
+    }
+}
+
+// Paths 1 to `count` - 1, after the root with its label.
+fn read_paths(s: &[u8], at: usize, count: usize, root: u32) -> Paths
+    requires { ⌜ (1 ≤ count) × (count ≤ 64) ⌝ }
+    ensures { λ r. ⌜ r ≡ pathsAnswer root (run (morePaths (count - 1) []) at (drop at (now (s .entry)))) ⌝ }
+{
+    let mut parent = [0u8; 64];
+    let mut label = [0u32; 64];
+    let mut depth = [0u8; 64];
+    label[0] = root;
+    depth[0] = 1;
+    let mut next = at;
+    let mut x = 1usize;
+    while x < count {
+        match read_path(s, next, x, &parent, &label, &depth) {
+            OnePath::Refused(why, place) => {
+                return Paths {
+                    end: Section::Refused(why, place),
+                    parent: [0u8; 64],
+                    label: [0u32; 64],
+                };
+            }
+            OnePath::Is(p, l, d, after) => {
+                parent[x] = p;
+                label[x] = l;
+                depth[x] = d;
+                next = after;
+            }
+        }
+        x += 1;
+    }
+    Paths {
+        end: Section::Read(next),
+        parent,
+        label,
     }
 }

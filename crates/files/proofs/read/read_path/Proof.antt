@@ -6,42 +6,34 @@ use Rattle.files.proofs.read.read_path.Lts as lts
 use Rattle.files.proofs.number.read_number.Reads as read-number-reads
 use Rattle.files.proofs.read.parent_test.Reads as parent-test-reads
 use Rattle.files.proofs.read.read_label.Reads as read-label-reads
+use Rattle.files.proofs.Reader.{path-laws}
 
--- src/read.rt:182:11
 read-number-requires : tie.Need-read-number-requires
 read-number-requires c κs = search needs
 
--- src/read.rt:183:25
 enum-known-why : tie.Need-enum-known-why
 enum-known-why c = search needs
 
--- src/read.rt:184:20
 enum-known-p : tie.Need-enum-known-p
 enum-known-p c = search needs
 
--- src/read.rt:185:17
 parent-test-requires : tie.Need-parent-test-requires
 parent-test-requires c κs = search needs
 
--- src/read.rt:187:17
 returns : tie.Need-returns
-returns c = ?
+returns c = search (needs, path-laws)
 
--- src/read.rt:189:27
 add-read-label : tie.Need-add-read-label
-add-read-label c = ?
+add-read-label c = search (needs, path-laws)
 
--- src/read.rt:189:13
 read-label-requires : tie.Need-read-label-requires
-read-label-requires c κs = ?
+read-label-requires c κs = search (needs, path-laws)
 
--- src/read.rt:171:1
 returns-2 : tie.Need-returns-2
-returns-2 c = ?
+returns-2 c = search (needs, path-laws)
 
--- src/read.rt:171:1
 returns-3 : tie.Need-returns-3
-returns-3 c = ?
+returns-3 c = search (needs, path-laws)
 
 pub read-path-spec : {M : Type 1} → statement M
 read-path-spec =
