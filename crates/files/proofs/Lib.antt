@@ -3,7 +3,9 @@ pub mod Formats
 pub mod Numbers
 pub mod Padded
 pub mod Reader
+pub mod ReaderPaths
 pub mod SetBits
 pub mod SetLowest
 pub mod SetMembers
 mod SetWords
+pub mod Tables
