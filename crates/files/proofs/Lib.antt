@@ -4,6 +4,7 @@ pub mod Numbers
 pub mod Padded
 pub mod Reader
 pub mod ReaderPaths
+pub mod ReaderRules
 pub mod SetBits
 pub mod SetLowest
 pub mod SetMembers
