@@ -3,6 +3,7 @@ pub mod Formats
 pub mod Numbers
 pub mod Padded
 pub mod Reader
+pub mod ReaderFile
 pub mod ReaderPaths
 pub mod ReaderRules
 pub mod SetBits
