@@ -1,2 +1,3 @@
 -- The laws of paths, trees and part systems.
 pub mod Paths
+pub mod Tree
