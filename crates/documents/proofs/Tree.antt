@@ -8,7 +8,7 @@ use Rattle.documents.specs.Tree.{
   Forest, none, tree, Node, here, deeper, beside, Holds, NodeHolds, itself, descendant, Under, nothing, child, Document, document
 }
 use Rattle.documents.proofs.Paths.{
-  below-refl, below-step, below-comparable, below-antisym, below-strictly, strictly-trans, strictly-lt, below-le, parent-strictly
+  below-refl, below-step, below-comparable, below-antisym, below-strictly, strictly-trans, strictly-lt, parent-strictly, below-root
 }
 
 -- a forest holds the path of each of its nodes
@@ -69,6 +69,12 @@ pub record Placed (parent : ℕ → ℕ) (count p x : ℕ) (u : Forest) : Type 0
   pub small : x < count
   pub under : Under parent count x u
 
+-- a node of the forest on path m, with the node on x over `v` in its tree
+pub record Through (f : Forest) (m x : ℕ) (v : Forest) : Type 0 where
+  pub kids : Forest
+  pub node : Node m kids f
+  pub inside : Node x v (tree m kids none)
+
 -- a node of the forest on path m that holds x
 pub record Holding (f : Forest) (m x : ℕ) : Type 0 where
   pub kids : Forest
@@ -108,41 +114,52 @@ module _ {parent : ℕ → ℕ} (desc : Descending parent) where
       pick (inl q) = q
       pick (inr b) = absurd (s .other (below-antisym desc (s .below) (subst (λ (q : ℕ). Below parent m q) e b)))
 
-  among : {count p m x : ℕ} {f : Forest} → Under parent count p f → Holds f x → StrictlyBelow parent p m → Below parent m x
-    → Holding f m x
-  unfolding Holds
-  among {m = m} {x} (child {x = k} {kids = kids} {rest = rest} z s e d r) (inl q) t b =
-      let w : m ≡ k = child-prefix e t (subst (λ (y : ℕ). Below parent m y) (sym q) b) in
-      record { kids = kids; node = subst (λ (y : ℕ). Node m kids (tree y kids rest)) w here; holds = itself (w ∙ q) }
-  among {m = m} {x} (child {x = k} {kids = kids} {rest = rest} z s e d r) (inr (inl h)) t b =
-      pick (below-comparable (under-strictly d h .below) b) (λ w. among d h w b)
+  among : {count p m x : ℕ} {v f : Forest} → Under parent count p f → Node x v f → StrictlyBelow parent p m → Below parent m x
+    → Through f m x v
+  among {m = m} {x} {v} (child {rest = rest} z s e d r) here t b =
+      let w : m ≡ x = child-prefix e t b in
+      record {
+        kids = v
+        ; node = subst (λ (y : ℕ). Node m v (tree y v rest)) w here
+        ; inside = subst (λ (y : ℕ). Node x v (tree y v none)) (sym w) here
+        }
+  among {m = m} {x} {v} (child {x = k} {kids = kids} {rest = rest} z s e d r) (deeper n) t b =
+      pick (below-comparable (under-placed d n .below .below) b) (λ w. among d n w b)
     where
-      onto : m ≡ k → Holding (tree k kids rest) m x
-      onto w = record { kids = kids; node = subst (λ (y : ℕ). Node m kids (tree y kids rest)) w here; holds = descendant h }
-      split : (k ≡ m) ⊎ StrictlyBelow parent k m → (StrictlyBelow parent k m → Holding kids m x) → Holding (tree k kids rest) m x
+      onto : m ≡ k → Through (tree k kids rest) m x v
+      onto w = record { kids = kids; node = subst (λ (y : ℕ). Node m kids (tree y kids rest)) w here; inside = deeper n }
+      split : (k ≡ m) ⊎ StrictlyBelow parent k m → (StrictlyBelow parent k m → Through kids m x v) → Through (tree k kids rest) m x v
       split (inl w) again = onto (sym w)
-      split (inr w) again = let a = again w in record { kids = a .kids; node = deeper (a .node); holds = a .holds }
-      pick : Below parent k m ⊎ Below parent m k → (StrictlyBelow parent k m → Holding kids m x) → Holding (tree k kids rest) m x
+      split (inr w) again = let a = again w in record { kids = a .kids; node = deeper (a .node); inside = a .inside }
+      pick : Below parent k m ⊎ Below parent m k → (StrictlyBelow parent k m → Through kids m x v) → Through (tree k kids rest) m x v
       pick (inl w) again = split (below-strictly desc w) again
       pick (inr w) again = onto (child-prefix e t w)
-  among (child z s e d r) (inr (inr h)) t b =
-      let a = among r h t b in record { kids = a .kids; node = beside (a .node); holds = a .holds }
+  among (child z s e d r) (beside n) t b =
+      let a = among r n t b in record { kids = a .kids; node = beside (a .node); inside = a .inside }
+
+  -- a node in the tree of a node on c stands in the tree of a node on every path between
+  pub through : {count c m x : ℕ} {u v : Forest} → Under parent count c u → Node x v (tree c u none) → Below parent c m
+    → Below parent m x → Through (tree c u none) m x v
+  through {c = c} {m} {u = u} d here l b =
+      let w : c ≡ m = below-antisym desc l b in
+      record {
+        kids = u
+        ; node = subst (λ (y : ℕ). Node y u (tree c u none)) w here
+        ; inside = subst (λ (y : ℕ). Node c u (tree y u none)) w here
+        }
+  through {c = c} {m} {x} {u} {v} d (deeper n) l b = pick (below-strictly desc l)
+    where
+      pick : (c ≡ m) ⊎ StrictlyBelow parent c m → Through (tree c u none) m x v
+      pick (inl w) = record { kids = u; node = subst (λ (y : ℕ). Node y u (tree c u none)) w here; inside = deeper n }
+      pick (inr s) = let a = among d n s b in record { kids = a .kids; node = deeper (a .node); inside = a .inside }
 
   -- between a node on c that holds x and the held node there is a node on every path between
   pub between : {count c m x : ℕ} {u : Forest} → Under parent count c u → NodeHolds c u x → Below parent c m → Below parent m x
     → Holding (tree c u none) m x
-  between {c = c} {m} {x} {u} d h l b = pick (below-strictly desc l) h
-    where
-      held : StrictlyBelow parent c m → NodeHolds c u x → Holds u x
-      held s (itself e) = absurd (s .other (below-antisym desc (s .below) (subst (λ (y : ℕ). Below parent m y) (sym e) b)))
-      held s (descendant k) = k
-      pick : (c ≡ m) ⊎ StrictlyBelow parent c m → NodeHolds c u x → Holding (tree c u none) m x
-      pick (inl e) k = record {
-        kids = u
-        ; node = subst (λ (y : ℕ). Node y u (tree c u none)) e here
-        ; holds = subst (λ (y : ℕ). NodeHolds y u x) e k
-        }
-      pick (inr s) k = let a = among d (held s k) s b in record { kids = a .kids; node = deeper (a .node); holds = a .holds }
+  between {c = c} {x = x} {u} d h l b =
+      let n = holds-node (tree c u none) x (nodeHolds-tree h) in
+      let t = through d (n .1) l b in
+      record { kids = t .kids; node = t .node; holds = node-nodeHolds (t .inside) }
 
   -- what may stand under a node of a document, and its path in the table
   pub document-under : {count x : ℕ} {u d : Forest} → Document parent count d → Node x u d → Under parent count x u
@@ -164,3 +181,11 @@ module _ {parent : ℕ → ℕ} (desc : Descending parent) where
   -- a document has a node on the root
   pub document-node : {count : ℕ} {d : Forest} → Document parent count d → (u : Forest) × Node 0 u d
   document-node (document {kids = kids} k) = (kids, here)
+
+  -- a node of a document stands in the tree of a node on every prefix of its path
+  pub document-through : {count m x : ℕ} {v d : Forest} → Document parent count d → Node x v d → Below parent m x → Through d m x v
+  document-through {m = m} (document k) n b = through k n (below-root desc m) b
+
+  -- a document that holds x has a node that holds x on every prefix of x
+  pub document-between : {count m x : ℕ} {d : Forest} → Document parent count d → Holds d x → Below parent m x → Holding d m x
+  document-between {m = m} (document k) h b = between k (tree-nodeHolds h) (below-root desc m) b
