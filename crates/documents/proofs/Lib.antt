@@ -1,3 +1,4 @@
 -- The laws of paths, trees and part systems.
 pub mod Paths
 pub mod Tree
+pub mod Parts

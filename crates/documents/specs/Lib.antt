@@ -1,3 +1,4 @@
 pub mod Paths
 pub mod Tree
 pub mod Obey
+pub mod Parts
