@@ -2,3 +2,4 @@
 pub mod Paths
 pub mod Tree
 pub mod Parts
+pub mod Extent
