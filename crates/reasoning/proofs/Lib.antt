@@ -1,0 +1,3 @@
+-- The laws of walks, of reachable sets, of the decisions and of evidence.
+pub mod Walks
+pub mod Written
