@@ -1,0 +1,2 @@
+-- The laws of paths, trees and part systems.
+pub mod Paths
