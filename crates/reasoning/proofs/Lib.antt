@@ -1,2 +1,4 @@
--- The laws of walks and of the documents handed back.
+-- The laws of walks, of reachable sets, of the decisions, of evidence and of the documents handed back.
+pub mod Walks
+pub mod Written
 pub mod Soundness

@@ -16,19 +16,8 @@ use Rattle.documents.proofs.Tree.{
 use Rattle.reasoning.specs.Walk.{
   Step, climb, along, against, Walk, stay, step, Reach, DeadBy, Dead, PairBy, Pair, straight, crossed
 }
+use Rattle.reasoning.proofs.Walks.{walk-start}
 use Rattle.reasoning.specs.Required.{Needed, root, listed, Conflict, pair, dead}
-
--- a walk inside c begins below c
-pub walk-begins : {parent : ℕ → ℕ} {rules : List Rule} {c x y : ℕ} {codes : List ℕ} → Walk parent rules c x codes y
-  → Below parent c x
-walk-begins (stay b) = b
-walk-begins (step b s w) = b
-
--- a walk inside c ends below c
-pub walk-ends : {parent : ℕ → ℕ} {rules : List Rule} {c x y : ℕ} {codes : List ℕ} → Walk parent rules c x codes y
-  → Below parent c y
-walk-ends (stay b) = b
-walk-ends (step b s w) = walk-ends w
 
 module _ {parent : ℕ → ℕ} {rules : List Rule} {count : ℕ} {d : Forest} (desc : Descending parent)
   (doc : Document parent count d) (obeys : Obeys parent rules d) where
@@ -61,7 +50,7 @@ module _ {parent : ℕ → ℕ} {rules : List Rule} {count : ℕ} {d : Forest} (
 
   walk-held : {c x y : ℕ} {codes : List ℕ} {u : Forest} → Node c u d → NodeHolds c u x → Walk parent rules c x codes y → NodeHolds c u y
   walk-held n h (stay b) = h
-  walk-held n h (step b s w) = walk-held n (step-held n h b (walk-begins w) s) w
+  walk-held n h (step b s w) = walk-held n (step-held n h b (walk-start w) s) w
 
   -- a node on c that holds x holds every path reachable from x inside c
   pub reach-held : {c x y : ℕ} {u : Forest} → Node c u d → NodeHolds c u x → Reach parent rules c x y → NodeHolds c u y
