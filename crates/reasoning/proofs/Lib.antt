@@ -2,3 +2,6 @@
 pub mod Walks
 pub mod Written
 pub mod Soundness
+pub mod Fill
+pub mod Kids
+pub mod Completeness

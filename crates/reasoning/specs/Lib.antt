@@ -1,3 +1,4 @@
 pub mod Walk
 pub mod Written
 pub mod Required
+pub mod Parts
