@@ -43,7 +43,7 @@ data Shape (parent : ℕ → ℕ) (rules : List Rule) (goals : List ℕ) (a : Pa
   single : (g : ℕ) → a .goals ≡ (g ∷ []) → ReachAny parent rules 0 goals g → Shape parent rules goals a
 
 -- with one goal, reachable from any is reachable from it
-only-goal : {parent : ℕ → ℕ} {rules : List Rule} {c g y : ℕ} → ReachAny parent rules c (g ∷ []) y → Reach parent rules c g y
+pub only-goal : {parent : ℕ → ℕ} {rules : List Rule} {c g y : ℕ} → ReachAny parent rules c (g ∷ []) y → Reach parent rules c g y
 only-goal {parent} {rules} {c} {g} {y} r = subst (λ (z : ℕ). Reach parent rules c z y) (List·Memᴰ·eq-of-singleton (r .listed)) (r .reach)
 
 module _ {parent : ℕ → ℕ} {rules : List Rule} {goals : List ℕ} (desc : Descending parent) where
@@ -108,7 +108,8 @@ module _ {parent : ℕ → ℕ} {rules : List Rule} {count : ℕ} {reach : ℕ �
   part-holds-iff {a} {y} v = (holds-reached v, reached-holds count a y (omega arith) v)
 
   module _ {goals : List ℕ} (v : Goals parent count 0 goals) where
-    named-goals : {a : Part} → Named (kidsOf parent count reach) (partZero goals ∷ []) a → Goals parent count (a .path) (a .goals)
+    -- the goals of a named part are goals that it may have
+    pub named-goals : {a : Part} → Named (kidsOf parent count reach) (partZero goals ∷ []) a → Goals parent count (a .path) (a .goals)
     named-goals (given m) = subst (λ (z : Part). Goals parent count (z .path) (z .goals)) (sym (List·Memᴰ·eq-of-singleton m)) v
     named-goals (further {p = a} k n m) =
         kid-goals desc within decides (named-goals n) (kids-are desc within decides k a (named-goals n) m)

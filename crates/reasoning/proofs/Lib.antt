@@ -5,3 +5,5 @@ pub mod Soundness
 pub mod Fill
 pub mod Kids
 pub mod Completeness
+pub mod HandedBack
+pub mod Equivalences

@@ -2,3 +2,4 @@ pub mod Walk
 pub mod Written
 pub mod Required
 pub mod Parts
+pub mod Follows
