@@ -1,12 +1,12 @@
 -- Obeying as source document 000 defines it, by extents, is obeying as the nodes on the context hold paths.
 use Prim.Native.Nat.{ℕ}
-use mathlib.Core.Path.{_≡_, refl, sym, subst, _∙_}
+use mathlib.Core.Path.{refl, sym, subst, _∙_}
 use mathlib.Core.Logic.{_↔_}
 use Rattle.documents.specs.Paths.{Context}
-use Rattle.documents.specs.Tree.{Forest, tree, Node, here, deeper, beside, Holds, NodeHolds, itself, descendant}
+use Rattle.documents.specs.Tree.{Forest, Node, here, deeper, beside, Holds, NodeHolds, itself, descendant}
 use Rattle.documents.specs.Obey.{Implication, Absence}
 use Rattle.documents.specs.Extent.{
-  Occurrence, StandsUnder, found, lower, further, Descendant, InExtent, HasDescendant, InDext, above, equal, PathImplication, PathAbsence
+  Occurrence, StandsUnder, found, lower, further, InExtent, InDext, above, equal, PathImplication, PathAbsence
 }
 use Rattle.documents.proofs.Tree.{node-holds, holds-node}
 

@@ -3,3 +3,4 @@ pub mod Paths
 pub mod Tree
 pub mod Parts
 pub mod Extent
+pub mod Shared

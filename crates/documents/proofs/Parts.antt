@@ -1,10 +1,10 @@
 -- The laws of part systems: every list of parts unfolds to one forest, and judging the parts is judging the forest.
-use Prim.Native.Nat.{ℕ, zero, suc, _≤_, _<_}
+use Prim.Native.Nat.{ℕ, zero, suc, _<_}
 use mathlib.Core.Path.{_≡_, refl, sym, subst, ap₂}
-use mathlib.Core.Logic.{_⊎_, inl, inr, _↔_}
-use mathlib.Core.List.{List, [], _∷_, List·Memᴰ, List·Memᴰ·head, List·Memᴰ·tail, List·Memᴰ·not-nil, List·Memᴰ·eq-of-singleton}
+use mathlib.Core.Logic.{inl, inr, _↔_}
+use mathlib.Core.List.{List, [], _∷_, List·Memᴰ, List·Memᴰ·head, List·Memᴰ·tail}
 use native.Mathlib.Omega.{arith}
-use Rattle.files.specs.Table.{Rule, Numbered}
+use Rattle.files.specs.Table.{Rule}
 use Rattle.documents.specs.Paths.{Context}
 use Rattle.documents.specs.Tree.{
   Forest, none, tree, Node, here, deeper, beside, Holds, NodeHolds, itself, descendant, Under, child, nothing as bare, Document, document
@@ -14,7 +14,7 @@ use Rattle.documents.specs.Parts.{
   Unfolds, nothing, copy, PartHolds, own, kid, Named, given, further, Falls, MayStand, Fits, PartsImplication, PartsAbsence,
   PartsObeyRule, PartsObey
 }
-use Rattle.documents.proofs.Tree.{node-trans, nodeHolds-trans, nodeHolds-tree, tree-nodeHolds, node-within, node-holds}
+use Rattle.documents.proofs.Tree.{node-trans, nodeHolds-trans, nodeHolds-tree, tree-nodeHolds}
 
 -- a copy of a part in the forest: a node on its path over what its kids unfold to
 pub record Copy {P : Type 0} (path : P → ℕ) (kids : P → List P) (p : P) (f : Forest) : Type 0 where

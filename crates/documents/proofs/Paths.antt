@@ -2,21 +2,13 @@
 use Prim.Native.Nat.{ℕ, zero, suc, _+_, _≤_, _<_}
 use mathlib.Core.Path.{_≡_, refl, sym, ap, _∙_, subst}
 use mathlib.Core.Logic.{_⊎_, inl, inr, _↔_}
-use mathlib.Core.Bool.{Bool, true, false, not}
+use mathlib.Core.Bool.{Bool, true, false}
 use native.Mathlib.Omega.{arith}
 use lib.Dec.{T, eqb, ltb, eqb→eq, eqb-refl, ltb→lt, nltb→le}
+pub use borrow.Author.Tests.{eqb-true, eqb-false}
 use Rattle.documents.specs.Paths.{
   Below, same, up, StrictlyBelow, Context, Descending, climbsTo, belowb, meet, contextOf, climbUnder, towards, climbs, depthOf
 }
-
--- a test that failed refutes the equation
-pub eqb-false : (x y : ℕ) → eqb x y ≡ false → x ≡ y → ⊥
-eqb-false x y e p =
-    subst (λ (b : Bool). T b) (subst (λ (z : ℕ). eqb x z ≡ false) (sym p) e) (eqb-refl x)
-
--- a test that passed gives the equation
-pub eqb-true : (x y : ℕ) → eqb x y ≡ true → x ≡ y
-eqb-true x y e = eqb→eq x y (subst (λ (b : Bool). T b) (sym e) tt)
 
 -- x is below itself
 pub below-refl : {parent : ℕ → ℕ} (x : ℕ) → Below parent x x
@@ -85,10 +77,6 @@ module _ {parent : ℕ → ℕ} (desc : Descending parent) where
   -- below a path strictly below c is strictly below c
   pub strictly-trans : {a b c : ℕ} → StrictlyBelow parent a b → Below parent b c → StrictlyBelow parent a c
   strictly-trans s h = record { below = below-trans (s .below) h; other = λ e. omega (arith, strictly-lt s, below-le h) }
-
-  -- strictly below a path below c is strictly below c
-  pub trans-strictly : {a b c : ℕ} → Below parent a b → StrictlyBelow parent b c → StrictlyBelow parent a c
-  trans-strictly h s = record { below = below-trans h (s .below); other = λ e. omega (arith, strictly-lt s, below-le h) }
 
   -- a climb takes one from the fuel
   pub parent-fuel : (x fuel : ℕ) → x ≤ suc fuel → parent x ≤ fuel

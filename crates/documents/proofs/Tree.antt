@@ -1,14 +1,14 @@
 -- The laws of trees: nodes and holding, what stands under a node, and the nodes between a node and what it holds.
 use Prim.Native.Nat.{ℕ, _<_}
-use mathlib.Core.Path.{_≡_, refl, sym, subst, _∙_}
+use mathlib.Core.Path.{_≡_, refl, sym, subst}
 use mathlib.Core.Logic.{_⊎_, inl, inr}
 use native.Mathlib.Omega.{arith}
-use Rattle.documents.specs.Paths.{Below, same, up, StrictlyBelow, Descending}
+use Rattle.documents.specs.Paths.{Below, same, StrictlyBelow, Descending}
 use Rattle.documents.specs.Tree.{
-  Forest, none, tree, Node, here, deeper, beside, Holds, NodeHolds, itself, descendant, Under, nothing, child, Document, document
+  Forest, none, tree, Node, here, deeper, beside, Holds, NodeHolds, itself, descendant, Under, child, Document, document
 }
 use Rattle.documents.proofs.Paths.{
-  below-refl, below-step, below-comparable, below-antisym, below-strictly, strictly-trans, strictly-lt, parent-strictly, below-root
+  below-step, below-comparable, below-antisym, below-strictly, strictly-trans, strictly-lt, parent-strictly, below-root
 }
 
 -- a forest holds the path of each of its nodes

@@ -1,18 +1,18 @@
 -- Completeness: the tree of a part [0; goals] is a document, holds exactly what is reachable from the goals, and obeys every
 -- rule unless a goal is dead or an absence rule excludes two of them.
 use Prim.Native.Nat.{ℕ, zero, suc, _+_, _-_, _≤_, _<_}
-use mathlib.Core.Path.{_≡_, refl, sym, subst, _∙_}
-use mathlib.Core.Logic.{_⊎_, inl, inr, _↔_}
+use mathlib.Core.Path.{_≡_, refl, sym, subst}
+use mathlib.Core.Logic.{inl, inr, _↔_}
 use mathlib.Core.Bool.{Bool}
-use mathlib.Core.List.{List, [], _∷_, List·Memᴰ, List·Memᴰ·head, List·Memᴰ·tail, List·Memᴰ·eq-of-singleton}
+use mathlib.Core.List.{List, [], _∷_, List·Memᴰ, List·Memᴰ·head, List·Memᴰ·eq-of-singleton}
 use native.Mathlib.Omega.{arith}
 use native.Mathlib.Decide.{ℕ-discrete}
 use Rattle.files.specs.Table.{Rule, Numbered}
-use Rattle.documents.specs.Paths.{Below, same, up, StrictlyBelow, Context, Descending, towards}
+use Rattle.documents.specs.Paths.{Below, Context, Descending, towards}
 use Rattle.documents.specs.Tree.{Forest, Holds, Document}
 use Rattle.documents.specs.Obey.{Obeys}
 use Rattle.documents.specs.Parts.{
-  Unfolds, PartHolds, own, kid, Named, given, further, Falls, MayStand, Fits, PartsImplication, PartsAbsence, PartsObey
+  Unfolds, PartHolds, own, kid, Named, given, further, Falls, MayStand, Fits, PartsImplication, PartsObey
 }
 use Rattle.documents.proofs.Paths.{
   below-trans, below-le, below-root, strictly-lt, parent-below, parent-strictly, parent-fuel, towards-below, towards-unique
@@ -22,7 +22,7 @@ use Rattle.reasoning.specs.Walk.{Step, along, against, Reach, Dead}
 use Rattle.reasoning.specs.Parts.{Part, pathOf, ReachAny, RulesIn, Decides, meetAll, kidsOf, partZero}
 use Rattle.reasoning.proofs.Walks.{reach-trans, reach-step, reach-prefix, reach-start, reach-end}
 use Rattle.reasoning.proofs.Kids.{
-  Goals, KidOf, handed, alone, meet-above, meet-longest, reach-climb, kid-goals, kid-stands, kid-reaches, kids-are, kids-cover, handed-kid
+  Goals, KidOf, handed, alone, reach-climb, kid-goals, kid-stands, kid-reaches, kids-are, kids-cover, handed-kid
 }
 
 -- an absence rule, whose context is a prefix of every goal, excludes two of the goals

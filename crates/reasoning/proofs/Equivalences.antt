@@ -5,6 +5,7 @@ use mathlib.Core.Bool.{Bool}
 use mathlib.Core.List.{List, List·Memᴰ}
 use Rattle.files.specs.Table.{Rule}
 use Rattle.documents.specs.Paths.{Context, Descending}
+use Rattle.documents.proofs.Paths.{context-sym}
 use Rattle.reasoning.specs.Walk.{Reach, Dead, Pair}
 use Rattle.reasoning.specs.Required.{Conflict}
 use Rattle.reasoning.specs.Follows.{Implied, Excluded, Together, Consistent}
@@ -32,6 +33,16 @@ module _ {parent : ℕ → ℕ} {rules : List Rule} {count : ℕ} {reach : ℕ �
           let t = tree-exists desc within decides (one-goals desc l) in
           let w = implication-no desc within decides l x a b (t .1) in
           absurd (w .breaks (h .every (t .0) (w .isDocument) (w .obeys)))
+
+  -- a co-occurrence holds in every document that obeys exactly if both implications do
+  pub together-exactly : {p q c : ℕ} → p < count → q < count → Context parent p q c → Dec (Reach parent rules c p q)
+    → Dec (Dead parent rules p) → Dec (Reach parent rules c q p) → Dec (Dead parent rules q)
+    → Together parent rules count p q
+    ↔ ((Reach parent rules c p q ⊎ Dead parent rules p) × (Reach parent rules c q p ⊎ Dead parent rules q))
+  together-exactly lp lq x r k s j =
+      let along = implication-exactly lp x r k in
+      let against = implication-exactly lq (context-sym desc x) s j in
+      (λ h. (along .0 (h .along), against .0 (h .against)), λ h. record { along = along .1 (h .0); against = against .1 (h .1) })
 
   -- an absence holds in every document that obeys exactly if a side is dead or a pair excludes them
   pub absence-exactly : {p q c : ℕ} → p < count → q < count → Context parent p q c

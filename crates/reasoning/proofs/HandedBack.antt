@@ -1,7 +1,7 @@
 -- The documents handed back: the tree of part 0 breaks the implication or the absence asked, or holds every required path, and
 -- obeys every rule, unless a path is dead or a pair stands.
 use Prim.Native.Nat.{ℕ, _<_}
-use mathlib.Core.Path.{_≡_, refl, sym, subst, _∙_}
+use mathlib.Core.Path.{_≡_, refl, sym, subst}
 use mathlib.Core.Logic.{_⊎_, inl, inr}
 use mathlib.Core.Bool.{Bool, true, false}
 use mathlib.Core.List.{List, [], _∷_, List·Memᴰ, List·Memᴰ·head, List·Memᴰ·tail, List·Memᴰ·eq-of-singleton, List·Memᴰ·cases-cons}
@@ -17,7 +17,7 @@ use Rattle.reasoning.specs.Walk.{Reach, Dead, PairBy, Pair, straight, cr
 use Rattle.reasoning.specs.Required.{Needed, root, listed, Conflict, pair, dead}
 use Rattle.reasoning.specs.Follows.{BreaksImplication, BreaksAbsence, Witnesses}
 use Rattle.reasoning.specs.Parts.{
-  Part, pathOf, ReachAny, RulesIn, Decides, meetAll, kidsOf, partZero, implicationPart, bothGoals, absencePart, consistencyPart
+  pathOf, RulesIn, Decides, meetAll, kidsOf, implicationPart, bothGoals, absencePart, consistencyPart
 }
 use Rattle.reasoning.proofs.Walks.{reach-refl, reach-start}
 use Rattle.reasoning.proofs.Kids.{Goals, meet-above, meet-longest}

@@ -1,17 +1,15 @@
 -- The children of a part: what each of them is, and that together they cover what the part reaches.
-use Prim.Native.Nat.{ℕ, zero, suc, _≤_, _<_}
-use mathlib.Core.Path.{_≡_, refl, sym, subst, _∙_}
+use Prim.Native.Nat.{ℕ, zero, suc, _<_}
+use mathlib.Core.Path.{_≡_, refl, sym, subst}
 use mathlib.Core.Logic.{_⊎_, inl, inr, _↔_}
-use mathlib.Core.Bool.{Bool, true, false, not, true≢false, false≢true}
+use mathlib.Core.Bool.{Bool, true, false}
 use mathlib.Core.List.{
-  List, [], _∷_, _++_, List·Memᴰ, List·Memᴰ·head, List·Memᴰ·tail, List·Memᴰ·eq-of-singleton, Memᴰ·append-left, Memᴰ·append-right,
-  List·Memᴰ·append-cases, List·Memᴰ·cases-cons
+  List, [], _∷_, List·Memᴰ, List·Memᴰ·head, List·Memᴰ·tail, List·Memᴰ·eq-of-singleton, List·Memᴰ·cases-cons
 }
 use native.Mathlib.Omega.{arith}
-use native.Mathlib.Decide.{decLt}
-use lib.Dec.{T, eqb, not-T}
-use Rattle.files.specs.Table.{Rule, Numbered}
-use Rattle.documents.specs.Paths.{Below, same, up, StrictlyBelow, Context, Descending, contextOf, towards}
+use lib.Dec.{T, eqb}
+use Rattle.files.specs.Table.{Rule}
+use Rattle.documents.specs.Paths.{Below, same, up, StrictlyBelow, Descending, towards}
 use Rattle.documents.specs.Parts.{MayStand}
 use Rattle.documents.proofs.Paths.{
   eqb-true, eqb-false, below-refl, below-trans, below-le, strictly-lt, parent-le, contextOf-context, towards-parent, towards-strictly,
@@ -19,7 +17,7 @@ use Rattle.documents.proofs.Paths.{
 }
 use Rattle.reasoning.specs.Walk.{Step, climb, along, against, Walk, stay, step, Reach}
 use Rattle.reasoning.specs.Parts.{
-  Part, pathOf, ReachAny, RulesIn, Decides, someb, meetAll, childFor, ownEach, ownKids, coversb, lacksb, fill, kidsOf
+  Part, pathOf, ReachAny, RulesIn, Decides, meetAll, childFor, ownEach, ownKids, coversb, kidsOf
 }
 use Rattle.reasoning.proofs.Fill.{Chosen, someb-some, some-someb, fill-keeps, fill-cases, fill-covers}
 use Rattle.reasoning.proofs.Walks.{reach-refl, reach-trans, reach-step, reach-prefix, reach-end}

@@ -1,20 +1,20 @@
 -- Soundness: in a document that obeys, a node holds what is reachable inside its path, a dead path does not occur, a pair
 -- excludes. So the easy halves of the three equivalences.
 use Prim.Native.Nat.{ℕ}
-use mathlib.Core.Path.{_≡_, refl, sym, subst}
+use mathlib.Core.Path.{_≡_, sym, subst}
 use mathlib.Core.Logic.{_⊎_, inl, inr}
-use mathlib.Core.List.{List, List·Memᴰ}
-use Rattle.files.specs.Table.{Rule, Numbered}
-use Rattle.documents.specs.Paths.{Below, same, up, StrictlyBelow, Context, Descending, contextOf}
-use Rattle.documents.specs.Tree.{Forest, none, tree, Node, Holds, NodeHolds, Under, Document}
-use Rattle.documents.specs.Obey.{Implication, Absence, ObeysRule, Obeys, HoldsAll}
-use Rattle.documents.proofs.Paths.{below-trans, below-root, context-unique, contextOf-context, parent-below}
+use mathlib.Core.List.{List}
+use Rattle.files.specs.Table.{Rule}
+use Rattle.documents.specs.Paths.{Below, Context, Descending, contextOf}
+use Rattle.documents.specs.Tree.{Forest, Node, Holds, NodeHolds, Document}
+use Rattle.documents.specs.Obey.{Implication, Absence, Obeys, HoldsAll}
+use Rattle.documents.proofs.Paths.{context-unique, contextOf-context, parent-below}
 use Rattle.documents.proofs.Tree.{
   node-within, node-holds, nodeHolds-forest, nodeHolds-trans, node-nodeHolds, between, document-under, document-root, document-node,
   document-through, document-between
 }
 use Rattle.reasoning.specs.Walk.{
-  Step, climb, along, against, Walk, stay, step, Reach, DeadBy, Dead, PairBy, Pair, straight, crossed
+  Step, climb, along, against, Walk, stay, step, Reach, Dead, PairBy, Pair, straight, crossed
 }
 use Rattle.reasoning.proofs.Walks.{walk-start}
 use Rattle.reasoning.specs.Required.{Needed, root, listed, Conflict, pair, dead}

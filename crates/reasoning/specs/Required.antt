@@ -1,7 +1,6 @@
 -- What stands in the way of a document that holds every required path.
 use Prim.Native.Nat.{ℕ}
 use mathlib.Core.Path.{_≡_}
-use mathlib.Core.Logic.{_⊎_}
 use mathlib.Core.List.{List, List·Memᴰ}
 use Rattle.files.specs.Table.{Rule}
 use Rattle.reasoning.specs.Walk.{Dead, PairBy}
