@@ -6,7 +6,17 @@ use Rattle.documents.specs.Paths.{Context}
 use Rattle.documents.specs.Tree.{Forest, Node, here, deeper, beside, Holds, NodeHolds, itself, descendant}
 use Rattle.documents.specs.Obey.{Implication, Absence}
 use Rattle.documents.specs.Extent.{
-  Occurrence, StandsUnder, found, lower, further, InExtent, InDext, above, equal, PathImplication, PathAbsence
+  Occurrence,
+  StandsUnder,
+  found,
+  lower,
+  further,
+  InExtent,
+  InDext,
+  above,
+  equal,
+  PathImplication,
+  PathAbsence,
 }
 use Rattle.documents.proofs.Tree.{node-holds, holds-node}
 
@@ -30,16 +40,17 @@ dext-holds {d} {c} {p} v i = (into, out)
     into (above j h) =
         descendant (subst (λ (z : ℕ). Holds (v .under) z) (h .member .on) (node-holds (under-node (h .descendant .under))))
     into (equal e j) = itself (j .on ∙ e)
+
     out : NodeHolds (v .path) (v .under) p → InDext c p v
     out (itself e) = equal (sym (i .on) ∙ e) i
     out (descendant h) =
         let n = holds-node (v .under) p h in
         let m = node-under (v .place) (n .1) in
         above i (record {
-          node = record { path = p; under = n .0; place = m .0 }
-          ; descendant = record { under = m .1 }
-          ; member = record { on = refl }
-          })
+          node = record { path = p; under = n .0; place = m .0 };
+          descendant = record { under = m .1 };
+          member = record { on = refl };
+        })
 
 -- what is in a descendant extent is in the extent
 dext-extent : {d : Forest} {c p : ℕ} {v : Occurrence d} → InDext c p v → InExtent c v
@@ -54,15 +65,15 @@ module _ {parent : ℕ → ℕ} {p q : ℕ} {d : Forest} where
       included = λ c x v i.
           let e = dext-extent i in
           dext-holds v e .1
-            (h .every (v .path) (subst (Context parent p q) (sym (e .on)) x) (v .under) (v .place) (dext-holds v e .0 i))
-      },
+          (h .every (v .path) (subst (Context parent p q) (sym (e .on)) x) (v .under) (v .place) (dext-holds v e .0 i));
+    },
     λ h. record {
       every = λ c x u n k.
           let v : Occurrence d = record { path = c; under = u; place = n } in
           let e : InExtent c v = record { on = refl } in
-          dext-holds v e .0 (h .included c x v (dext-holds v e .1 k))
-      }
-    )
+          dext-holds v e .0 (h .included c x v (dext-holds v e .1 k));
+    },
+  )
 
   -- definition 2.3 says that no node on the context holds both
   pub absence-extent : Absence parent p q d ↔ PathAbsence parent p q d
@@ -70,12 +81,12 @@ module _ {parent : ℕ → ℕ} {p q : ℕ} {d : Forest} where
     λ h. record {
       disjoint = λ c x v i j.
           let e = dext-extent i in
-          h .never (v .path) (subst (Context parent p q) (sym (e .on)) x) (v .under) (v .place) (dext-holds v e .0 i) (dext-holds v e .0 j)
-      },
+          h .never (v .path) (subst (Context parent p q) (sym (e .on)) x) (v .under) (v .place) (dext-holds v e .0 i) (dext-holds v e .0 j);
+    },
     λ h. record {
       never = λ c x u n k l.
           let v : Occurrence d = record { path = c; under = u; place = n } in
           let e : InExtent c v = record { on = refl } in
-          h .disjoint c x v (dext-holds v e .1 k) (dext-holds v e .1 l)
-      }
-    )
+          h .disjoint c x v (dext-holds v e .1 k) (dext-holds v e .1 l);
+    },
+  )

@@ -7,12 +7,41 @@ use native.Mathlib.Omega.{arith}
 use Rattle.files.specs.Table.{Rule}
 use Rattle.documents.specs.Paths.{Context}
 use Rattle.documents.specs.Tree.{
-  Forest, none, tree, Node, here, deeper, beside, Holds, NodeHolds, itself, descendant, Under, child, nothing as bare, Document, document
+  Forest,
+  none,
+  tree,
+  Node,
+  here,
+  deeper,
+  beside,
+  Holds,
+  NodeHolds,
+  itself,
+  descendant,
+  Under,
+  child,
+  nothing as bare,
+  Document,
+  document,
 }
 use Rattle.documents.specs.Obey.{Implication, Absence, ObeysRule, Obeys}
 use Rattle.documents.specs.Parts.{
-  Unfolds, nothing, copy, PartHolds, own, kid, Named, given, further, Falls, MayStand, Fits, PartsImplication, PartsAbsence,
-  PartsObeyRule, PartsObey
+  Unfolds,
+  nothing,
+  copy,
+  PartHolds,
+  own,
+  kid,
+  Named,
+  given,
+  further,
+  Falls,
+  MayStand,
+  Fits,
+  PartsImplication,
+  PartsAbsence,
+  PartsObeyRule,
+  PartsObey,
 }
 use Rattle.documents.proofs.Tree.{node-trans, nodeHolds-trans, nodeHolds-tree, tree-nodeHolds}
 
@@ -122,24 +151,24 @@ module _ {P : Type 0} {path : P → ℕ} {kids : P → List P} where
     list-unfolds = unfold-list start (λ p m. part-unfolds p (given m))
 
   stands : {parent : ℕ → ℕ} {count : ℕ} {start ps : List P} {x : ℕ} {f : Forest} → Fits parent count path kids start
-    → ((k : P) → List·Memᴰ k ps → Named kids start k × MayStand parent count path x k) → Unfolds path kids ps f → Under parent count x f
+      → ((k : P) → List·Memᴰ k ps → Named kids start k × MayStand parent count path x k) → Unfolds path kids ps f → Under parent count x f
   stands fits h nothing = bare
   stands fits h (copy {p = p} u r) =
       let k = h p (List·Memᴰ·head refl) in
       child (k .1 .inner) (k .1 .small) (k .1 .parent-is)
-        (stands fits (λ q m. (further p (k .0) m, fits .each p q (k .0) m)) u) (stands fits (λ q m. h q (List·Memᴰ·tail m)) r)
+      (stands fits (λ q m. (further p (k .0) m, fits .each p q (k .0) m)) u) (stands fits (λ q m. h q (List·Memᴰ·tail m)) r)
 
   -- what a named part's kids unfold to may stand under its path
   pub unfolds-under : {parent : ℕ → ℕ} {count : ℕ} {start : List P} {p : P} {u : Forest} → Fits parent count path kids start
-    → Named kids start p → Unfolds path kids (kids p) u → Under parent count (path p) u
+      → Named kids start p → Unfolds path kids (kids p) u → Under parent count (path p) u
   unfolds-under {p = p} fits n u = stands fits (λ k m. (further p n m, fits .each p k n m)) u
 
   -- a part on path 0 unfolds to a document
   pub unfolds-document : {parent : ℕ → ℕ} {count : ℕ} {p : P} {f : Forest} → Fits parent count path kids (p ∷ []) → path p ≡ 0
-    → Unfolds path kids (p ∷ []) f → Document parent count f
+      → Unfolds path kids (p ∷ []) f → Document parent count f
   unfolds-document {parent} {count} {p} fits e (copy {under = u} h nothing) =
       subst (λ (z : ℕ). Document parent count (tree z u none)) (sym e)
-        (document (subst (λ (z : ℕ). Under parent count z u) e (unfolds-under fits (given (List·Memᴰ·head refl)) h)))
+      (document (subst (λ (z : ℕ). Under parent count z u) e (unfolds-under fits (given (List·Memᴰ·head refl)) h)))
 
   -- the forest of one part holds exactly what the part holds
   pub one-holds : {p : P} {f : Forest} {y : ℕ} → Unfolds path kids (p ∷ []) f → PartHolds path kids p y ↔ Holds f y
@@ -160,40 +189,40 @@ module _ {P : Type 0} {path : P → ℕ} {kids : P → List P} where
       λ h. record {
         every = λ c x a n e hp.
             let k = named-copy u n in
-            copy-holds (k .unfolds) .1 (h .every (path a) (subst (Context parent p q) (sym e) x) (k .under) (k .node) (copy-holds (k .unfolds) .0 hp))
-        }
-      )
+            copy-holds (k .unfolds) .1 (h .every (path a) (subst (Context parent p q) (sym e) x) (k .under) (k .node) (copy-holds (k .unfolds) .0 hp));
+      },
+    )
 
     -- the forest obeys an absence exactly if every named part does
     pub parts-absence : (p q : ℕ) → PartsAbsence parent path kids ps p q ↔ Absence parent p q f
     parts-absence p q = (
       λ h. record {
-        never = λ c x v n hp hq. let k = node-copy u n in h .never c x (k .part) (k .named) (k .on) (copy-in k hp) (copy-in k hq)
-        },
+        never = λ c x v n hp hq. let k = node-copy u n in h .never c x (k .part) (k .named) (k .on) (copy-in k hp) (copy-in k hq);
+      },
       λ h. record {
         never = λ c x a n e hp hq.
             let k = named-copy u n in
             h .never (path a) (subst (Context parent p q) (sym e) x) (k .under) (k .node) (copy-holds (k .unfolds) .0 hp)
-              (copy-holds (k .unfolds) .0 hq)
-        }
-      )
+            (copy-holds (k .unfolds) .0 hq);
+      },
+    )
 
     -- the forest obeys a rule exactly if every named part does
     pub parts-rule : (r : Rule) → PartsObeyRule parent path kids ps r ↔ ObeysRule parent r f
     parts-rule r = (
       λ h. record {
-        implication = λ e. parts-implication (r .left) (r .right) .0 (h .implication e)
-        ; absence = λ e. parts-absence (r .left) (r .right) .0 (h .absence e)
-        ; along = λ e. parts-implication (r .left) (r .right) .0 (h .along e)
-        ; against = λ e. parts-implication (r .right) (r .left) .0 (h .against e)
-        },
+        implication = λ e. parts-implication (r .left) (r .right) .0 (h .implication e);
+        absence = λ e. parts-absence (r .left) (r .right) .0 (h .absence e);
+        along = λ e. parts-implication (r .left) (r .right) .0 (h .along e);
+        against = λ e. parts-implication (r .right) (r .left) .0 (h .against e);
+      },
       λ h. record {
-        implication = λ e. parts-implication (r .left) (r .right) .1 (h .implication e)
-        ; absence = λ e. parts-absence (r .left) (r .right) .1 (h .absence e)
-        ; along = λ e. parts-implication (r .left) (r .right) .1 (h .along e)
-        ; against = λ e. parts-implication (r .right) (r .left) .1 (h .against e)
-        }
-      )
+        implication = λ e. parts-implication (r .left) (r .right) .1 (h .implication e);
+        absence = λ e. parts-absence (r .left) (r .right) .1 (h .absence e);
+        along = λ e. parts-implication (r .left) (r .right) .1 (h .along e);
+        against = λ e. parts-implication (r .right) (r .left) .1 (h .against e);
+      },
+    )
 
     -- the forest obeys a list of rules exactly if every named part does
     pub parts-obey : (rules : List Rule) → PartsObey parent path kids ps rules ↔ Obeys parent rules f

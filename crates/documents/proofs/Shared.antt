@@ -6,7 +6,17 @@ use mathlib.Core.Logic.{_↔_}
 use mathlib.Core.List.{List, List·Memᴰ}
 use Rattle.files.specs.Table.{Rule}
 use Rattle.documents.specs.Parts.{
-  PartHolds, own, kid, Named, given, further, Falls, MayStand, Fits, PartsImplication, PartsAbsence, PartsObeyRule, PartsObey
+  PartHolds,
+  own,
+  kid,
+  Named,
+  given,
+  further,
+  Falls,
+  Fits,
+  PartsImplication,
+  PartsAbsence,
+  PartsObey,
 }
 
 -- a member of the list that is named j
@@ -17,7 +27,7 @@ pub record Origin {P Q : Type 0} (part : Q → P) (qs : List Q) (j : P) : Type 0
 
 -- the names q of the list `qs`, and all that they name, stand for the parts `part q` of the list `ps`: on the same path, naming the same
 pub record Renames {P Q : Type 0} (path : P → ℕ) (kids : P → List P) (ps : List P) (onPath : Q → ℕ) (names : Q → List Q) (qs : List Q)
-  (part : Q → P) : Type 0 where
+    (part : Q → P) : Type 0 where
   pub on : (q : Q) → Named names qs q → path (part q) ≡ onPath q
   pub first : (q : Q) → List·Memᴰ q qs → List·Memᴰ (part q) ps
   pub first-all : (j : P) → List·Memᴰ j ps → Origin part qs j
@@ -31,7 +41,7 @@ record NamedOrigin {P Q : Type 0} (names : Q → List Q) (qs : List Q) (part : Q
   is : part name ≡ j
 
 module _ {P Q : Type 0} {path : P → ℕ} {kids : P → List P} {ps : List P} {onPath : Q → ℕ} {names : Q → List Q} {qs : List Q}
-  {part : Q → P} (same : Renames path kids ps onPath names qs part) where
+    {part : Q → P} (same : Renames path kids ps onPath names qs part) where
   -- what a name stands for is named
   pub named-image : {q : Q} → Named names qs q → Named kids ps (part q)
   named-image {q} (given m) = given (same .first q m)
@@ -64,8 +74,8 @@ module _ {P Q : Type 0} {path : P → ℕ} {kids : P → List P} {ps : List P} {
     each = λ q k n m.
         let s = f .each (part q) (part k) (named-image n) (same .next q k n m) in
         let e = same .on k (further q n m) in
-        record { inner = rw (← e) (s .inner); small = rw (← e) (s .small); parent-is = rw (← e) (s .parent-is ∙ same .on q n) }
-    }
+        record { inner = rw (← e) (s .inner); small = rw (← e) (s .small); parent-is = rw (← e) (s .parent-is ∙ same .on q n) };
+  }
 
   -- a rank of the parts is one of the names
   pub renamed-falls : {rank : P → ℕ} → Falls kids rank ps → Falls names (λ q. rank (part q)) qs
@@ -75,48 +85,48 @@ module _ {P Q : Type 0} {path : P → ℕ} {kids : P → List P} {ps : List P} {
     renamed-implication : {p q : ℕ} → PartsImplication parent path kids ps p q ↔ PartsImplication parent onPath names qs p q
     renamed-implication {q = q} = (
       λ h. record {
-        every = λ c x a n e k. renamed-holds n .1 (h .every c x (part a) (named-image n) (same .on a n ∙ e) (renamed-holds n .0 k))
-        },
+        every = λ c x a n e k. renamed-holds n .1 (h .every c x (part a) (named-image n) (same .on a n ∙ e) (renamed-holds n .0 k));
+      },
       λ h. record {
         every = λ c x j n e k.
             let o = named-origin n in
             subst (λ (z : P). PartHolds path kids z q) (o .is) (renamed-holds (o .named) .0
-              (h .every c x (o .name) (o .named) (sym (same .on (o .name) (o .named)) ∙ ap path (o .is) ∙ e)
-                (holds-origin k (o .name) (o .named) (o .is))))
-        }
-      )
+            (h .every c x (o .name) (o .named) (sym (same .on (o .name) (o .named)) ∙ ap path (o .is) ∙ e)
+            (holds-origin k (o .name) (o .named) (o .is))));
+      },
+    )
 
     renamed-absence : {p q : ℕ} → PartsAbsence parent path kids ps p q ↔ PartsAbsence parent onPath names qs p q
     renamed-absence = (
       λ h. record {
         never = λ c x a n e k l.
-            h .never c x (part a) (named-image n) (same .on a n ∙ e) (renamed-holds n .0 k) (renamed-holds n .0 l)
-        },
+            h .never c x (part a) (named-image n) (same .on a n ∙ e) (renamed-holds n .0 k) (renamed-holds n .0 l);
+      },
       λ h. record {
         never = λ c x j n e k l.
             let o = named-origin n in
             h .never c x (o .name) (o .named) (sym (same .on (o .name) (o .named)) ∙ ap path (o .is) ∙ e)
-              (holds-origin k (o .name) (o .named) (o .is)) (holds-origin l (o .name) (o .named) (o .is))
-        }
-      )
+            (holds-origin k (o .name) (o .named) (o .is)) (holds-origin l (o .name) (o .named) (o .is));
+      },
+    )
 
     -- the names obey a list of rules exactly if the parts do
     pub renamed-obey : {rules : List Rule} → PartsObey parent path kids ps rules ↔ PartsObey parent onPath names qs rules
     renamed-obey = (
       λ h. record {
         each = λ r ru n. record {
-          implication = λ e. renamed-implication .0 (h .each r ru n .implication e)
-          ; absence = λ e. renamed-absence .0 (h .each r ru n .absence e)
-          ; along = λ e. renamed-implication .0 (h .each r ru n .along e)
-          ; against = λ e. renamed-implication .0 (h .each r ru n .against e)
-          }
-        },
+          implication = λ e. renamed-implication .0 (h .each r ru n .implication e);
+          absence = λ e. renamed-absence .0 (h .each r ru n .absence e);
+          along = λ e. renamed-implication .0 (h .each r ru n .along e);
+          against = λ e. renamed-implication .0 (h .each r ru n .against e);
+        };
+      },
       λ h. record {
         each = λ r ru n. record {
-          implication = λ e. renamed-implication .1 (h .each r ru n .implication e)
-          ; absence = λ e. renamed-absence .1 (h .each r ru n .absence e)
-          ; along = λ e. renamed-implication .1 (h .each r ru n .along e)
-          ; against = λ e. renamed-implication .1 (h .each r ru n .against e)
-          }
-        }
-      )
+          implication = λ e. renamed-implication .1 (h .each r ru n .implication e);
+          absence = λ e. renamed-absence .1 (h .each r ru n .absence e);
+          along = λ e. renamed-implication .1 (h .each r ru n .along e);
+          against = λ e. renamed-implication .1 (h .each r ru n .against e);
+        };
+      },
+    )

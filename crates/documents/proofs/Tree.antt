@@ -5,10 +5,31 @@ use mathlib.Core.Logic.{_⊎_, inl, inr}
 use native.Mathlib.Omega.{arith}
 use Rattle.documents.specs.Paths.{Below, same, StrictlyBelow, Descending}
 use Rattle.documents.specs.Tree.{
-  Forest, none, tree, Node, here, deeper, beside, Holds, NodeHolds, itself, descendant, Under, child, Document, document
+  Forest,
+  none,
+  tree,
+  Node,
+  here,
+  deeper,
+  beside,
+  Holds,
+  NodeHolds,
+  itself,
+  descendant,
+  Under,
+  child,
+  Document,
+  document,
 }
 use Rattle.documents.proofs.Paths.{
-  below-step, below-comparable, below-antisym, below-strictly, strictly-trans, strictly-lt, parent-strictly, below-root
+  below-step,
+  below-comparable,
+  below-antisym,
+  below-strictly,
+  strictly-trans,
+  strictly-lt,
+  parent-strictly,
+  below-root,
 }
 
 -- a forest holds the path of each of its nodes
@@ -115,22 +136,24 @@ module _ {parent : ℕ → ℕ} (desc : Descending parent) where
       pick (inr b) = absurd (s .other (below-antisym desc (s .below) (subst (λ (q : ℕ). Below parent m q) e b)))
 
   among : {count p m x : ℕ} {v f : Forest} → Under parent count p f → Node x v f → StrictlyBelow parent p m → Below parent m x
-    → Through f m x v
+      → Through f m x v
   among {m = m} {x} {v} (child {rest = rest} z s e d r) here t b =
       let w : m ≡ x = child-prefix e t b in
       record {
-        kids = v
-        ; node = subst (λ (y : ℕ). Node m v (tree y v rest)) w here
-        ; inside = subst (λ (y : ℕ). Node x v (tree y v none)) (sym w) here
-        }
+        kids = v;
+        node = subst (λ (y : ℕ). Node m v (tree y v rest)) w here;
+        inside = subst (λ (y : ℕ). Node x v (tree y v none)) (sym w) here;
+      }
   among {m = m} {x} {v} (child {x = k} {kids = kids} {rest = rest} z s e d r) (deeper n) t b =
       pick (below-comparable (under-placed d n .below .below) b) (λ w. among d n w b)
     where
       onto : m ≡ k → Through (tree k kids rest) m x v
       onto w = record { kids = kids; node = subst (λ (y : ℕ). Node m kids (tree y kids rest)) w here; inside = deeper n }
+
       split : (k ≡ m) ⊎ StrictlyBelow parent k m → (StrictlyBelow parent k m → Through kids m x v) → Through (tree k kids rest) m x v
       split (inl w) again = onto (sym w)
       split (inr w) again = let a = again w in record { kids = a .kids; node = deeper (a .node); inside = a .inside }
+
       pick : Below parent k m ⊎ Below parent m k → (StrictlyBelow parent k m → Through kids m x v) → Through (tree k kids rest) m x v
       pick (inl w) again = split (below-strictly desc w) again
       pick (inr w) again = onto (child-prefix e t w)
@@ -139,14 +162,14 @@ module _ {parent : ℕ → ℕ} (desc : Descending parent) where
 
   -- a node in the tree of a node on c stands in the tree of a node on every path between
   pub through : {count c m x : ℕ} {u v : Forest} → Under parent count c u → Node x v (tree c u none) → Below parent c m
-    → Below parent m x → Through (tree c u none) m x v
+      → Below parent m x → Through (tree c u none) m x v
   through {c = c} {m} {u = u} d here l b =
       let w : c ≡ m = below-antisym desc l b in
       record {
-        kids = u
-        ; node = subst (λ (y : ℕ). Node y u (tree c u none)) w here
-        ; inside = subst (λ (y : ℕ). Node c u (tree y u none)) w here
-        }
+        kids = u;
+        node = subst (λ (y : ℕ). Node y u (tree c u none)) w here;
+        inside = subst (λ (y : ℕ). Node c u (tree y u none)) w here;
+      }
   through {c = c} {m} {x} {u} {v} d (deeper n) l b = pick (below-strictly desc l)
     where
       pick : (c ≡ m) ⊎ StrictlyBelow parent c m → Through (tree c u none) m x v
@@ -155,7 +178,7 @@ module _ {parent : ℕ → ℕ} (desc : Descending parent) where
 
   -- between a node on c that holds x and the held node there is a node on every path between
   pub between : {count c m x : ℕ} {u : Forest} → Under parent count c u → NodeHolds c u x → Below parent c m → Below parent m x
-    → Holding (tree c u none) m x
+      → Holding (tree c u none) m x
   between {c = c} {x = x} {u} d h l b =
       let n = holds-node (tree c u none) x (nodeHolds-tree h) in
       let t = through d (n .1) l b in

@@ -14,9 +14,9 @@ pub record Occurrence (d : Forest) : Type 0 where
 pub data StandsUnder {x y : ℕ} {u v : Forest} : (f : Forest) → Node x u f → Node y v f → Type 0 where
   found : {rest : Forest} (m : Node y v u) → StandsUnder (tree x u rest) here (deeper m)
   lower : {p : ℕ} {kids rest : Forest} {n : Node x u kids} {m : Node y v kids} → StandsUnder kids n m
-    → StandsUnder (tree p kids rest) (deeper n) (deeper m)
+      → StandsUnder (tree p kids rest) (deeper n) (deeper m)
   further : {p : ℕ} {kids rest : Forest} {n : Node x u rest} {m : Node y v rest} → StandsUnder rest n m
-    → StandsUnder (tree p kids rest) (beside n) (beside m)
+      → StandsUnder (tree p kids rest) (beside n) (beside m)
 
 -- w is a descendant node of v
 pub record Descendant {d : Forest} (v w : Occurrence d) : Type 0 where

@@ -10,7 +10,7 @@ use Rattle.documents.specs.Tree.{Forest, none, tree}
 pub data Unfolds {P : Type 0} (path : P → ℕ) (kids : P → List P) : List P → Forest → Type 0 where
   nothing : Unfolds path kids [] none
   copy : {p : P} {ps : List P} {under rest : Forest} → Unfolds path kids (kids p) under → Unfolds path kids ps rest
-    → Unfolds path kids (p ∷ ps) (tree (path p) under rest)
+      → Unfolds path kids (p ∷ ps) (tree (path p) under rest)
 
 -- a part holds y: it is on path y, or a part that it names holds y
 pub data PartHolds {P : Type 0} (path : P → ℕ) (kids : P → List P) : P → ℕ → Type 0 where
@@ -39,12 +39,12 @@ pub record Fits {P : Type 0} (parent : ℕ → ℕ) (count : ℕ) (path : P → 
 -- implication p, q, part by part: every named part on the context that holds p holds q
 pub record PartsImplication {P : Type 0} (parent : ℕ → ℕ) (path : P → ℕ) (kids : P → List P) (ps : List P) (p q : ℕ) : Type 0 where
   pub every : (c : ℕ) → Context parent p q c → (a : P) → Named kids ps a → path a ≡ c
-    → PartHolds path kids a p → PartHolds path kids a q
+      → PartHolds path kids a p → PartHolds path kids a q
 
 -- absence p, q, part by part: no named part on the context holds both
 pub record PartsAbsence {P : Type 0} (parent : ℕ → ℕ) (path : P → ℕ) (kids : P → List P) (ps : List P) (p q : ℕ) : Type 0 where
   pub never : (c : ℕ) → Context parent p q c → (a : P) → Named kids ps a → path a ≡ c
-    → PartHolds path kids a p → PartHolds path kids a q → ⊥
+      → PartHolds path kids a p → PartHolds path kids a q → ⊥
 
 -- a rule, part by part
 pub record PartsObeyRule {P : Type 0} (parent : ℕ → ℕ) (path : P → ℕ) (kids : P → List P) (ps : List P) (r : Rule) : Type 0 where

@@ -17,12 +17,27 @@ use Rattle.reasoning.specs.Walk.{Reach, Dead, PairBy, Pair, straight, cr
 use Rattle.reasoning.specs.Required.{Needed, root, listed, Conflict, pair, dead}
 use Rattle.reasoning.specs.Follows.{BreaksImplication, BreaksAbsence, Witnesses}
 use Rattle.reasoning.specs.Parts.{
-  pathOf, RulesIn, Decides, meetAll, kidsOf, implicationPart, bothGoals, absencePart, consistencyPart
+  pathOf,
+  RulesIn,
+  Decides,
+  meetAll,
+  kidsOf,
+  implicationPart,
+  bothGoals,
+  absencePart,
+  consistencyPart,
 }
 use Rattle.reasoning.proofs.Walks.{reach-refl, reach-start}
 use Rattle.reasoning.proofs.Kids.{Goals, meet-above, meet-longest}
 use Rattle.reasoning.proofs.Completeness.{
-  Clash, only-goal, part-holds-iff, named-goals, chain-named, tree-document, tree-obeys, tree-holds
+  Clash,
+  only-goal,
+  part-holds-iff,
+  named-goals,
+  chain-named,
+  tree-document,
+  tree-obeys,
+  tree-holds,
 }
 
 -- a path of two goals is one of them
@@ -33,6 +48,7 @@ both-cases p q g m = pick (eqb p q) refl
     second : (g ≡ p) ⊎ List·Memᴰ g (q ∷ []) → (g ≡ p) ⊎ (g ≡ q)
     second (inl e) = inl e
     second (inr k) = inr (List·Memᴰ·eq-of-singleton k)
+
     pick : (b : Bool) → eqb p q ≡ b → (g ≡ p) ⊎ (g ≡ q)
     pick true e = inl (List·Memᴰ·eq-of-singleton (rw (bothGoals, e) at m))
     pick false e = second (List·Memᴰ·cases-cons (rw (bothGoals, e) at m))
@@ -58,10 +74,10 @@ module _ {parent : ℕ → ℕ} (desc : Descending parent) where
   -- the context of two goals is that of the two paths
   both-context : (p q : ℕ) → Context parent p q (meetAll parent (bothGoals p q))
   both-context p q = record {
-    left = meet-above desc (both-left p q)
-    ; right = meet-above desc (both-right p q)
-    ; longest = λ d h k. meet-longest desc d (bothGoals p q) (both-left p q) (λ g m. pick d h k g (both-cases p q g m))
-    }
+    left = meet-above desc (both-left p q);
+    right = meet-above desc (both-right p q);
+    longest = λ d h k. meet-longest desc d (bothGoals p q) (both-left p q) (λ g m. pick d h k g (both-cases p q g m));
+  }
     where
       pick : (d : ℕ) → Below parent d p → Below parent d q → (g : ℕ) → (g ≡ p) ⊎ (g ≡ q) → Below parent d g
       pick d h k g (inl e) = subst (λ (z : ℕ). Below parent d z) (sym e) h
@@ -94,44 +110,45 @@ module _ {parent : ℕ → ℕ} {rules : List Rule} (desc : Descending parent) w
   clash-dead {g = g} k e f =
       let l = subst (λ (z : ℕ). Reach parent rules (k .context) z (k .ru .left)) e (k .left .reach) in
       record {
-        y = g
-        ; r = k .r
-        ; by = record {
-            ru = k .ru
-            ; rule = k .rule
-            ; absence = k .absence
-            ; context = k .context
-            ; isContext = k .isContext
-            ; prefix = reach-start l
-            ; here = reach-refl (below-root desc g)
-            ; left = l
-            ; right = subst (λ (z : ℕ). Reach parent rules (k .context) z (k .ru .right)) f (k .right .reach)
-            }
-        }
+        y = g;
+        r = k .r;
+        by = record {
+          ru = k .ru;
+          rule = k .rule;
+          absence = k .absence;
+          context = k .context;
+          isContext = k .isContext;
+          prefix = reach-start l;
+          here = reach-refl (below-root desc g);
+          left = l;
+          right = subst (λ (z : ℕ). Reach parent rules (k .context) z (k .ru .right)) f (k .right .reach);
+        };
+      }
 
   -- a clash of two goals is a pair below their context
   clash-pair : {goals : List ℕ} {c p q : ℕ} (k : Clash parent rules goals) → Below parent (k .context) c → k .left .goal ≡ p
-    → k .right .goal ≡ q → PairBy parent rules c p q (k .r)
+      → k .right .goal ≡ q → PairBy parent rules c p q (k .r)
   clash-pair k b e f = record {
-    ru = k .ru
-    ; rule = k .rule
-    ; absence = k .absence
-    ; context = k .context
-    ; isContext = k .isContext
-    ; prefix = b
-    ; left = subst (λ (z : ℕ). Reach parent rules (k .context) z (k .ru .left)) e (k .left .reach)
-    ; right = subst (λ (z : ℕ). Reach parent rules (k .context) z (k .ru .right)) f (k .right .reach)
-    }
+    ru = k .ru;
+    rule = k .rule;
+    absence = k .absence;
+    context = k .context;
+    isContext = k .isContext;
+    prefix = b;
+    left = subst (λ (z : ℕ). Reach parent rules (k .context) z (k .ru .left)) e (k .left .reach);
+    right = subst (λ (z : ℕ). Reach parent rules (k .context) z (k .ru .right)) f (k .right .reach);
+  }
 
   -- what a clash of the two goals of an absence says
   clash-both : {c p q : ℕ} → Context parent p q c → Clash parent rules (bothGoals p q)
-    → Dead parent rules p ⊎ (Dead parent rules q ⊎ Pair parent rules c p q)
+      → Dead parent rules p ⊎ (Dead parent rules q ⊎ Pair parent rules c p q)
   clash-both {c} {p} {q} x k = pick (both-cases p q _ (k .left .listed)) (both-cases p q _ (k .right .listed))
     where
       b : Below parent (k .context) c
       b = subst (λ (z : ℕ). Below parent (k .context) z) (context-unique desc (both-context desc p q) x) (k .prefix)
+
       pick : (k .left .goal ≡ p) ⊎ (k .left .goal ≡ q) → (k .right .goal ≡ p) ⊎ (k .right .goal ≡ q)
-        → Dead parent rules p ⊎ (Dead parent rules q ⊎ Pair parent rules c p q)
+          → Dead parent rules p ⊎ (Dead parent rules q ⊎ Pair parent rules c p q)
       pick (inl e) (inl f) = inl (clash-dead k e f)
       pick (inl e) (inr f) = inr (inr (straight (k .r) (clash-pair k b e f)))
       pick (inr e) (inl f) = inr (inr (crossed (k .r) (clash-pair k b e f)))
@@ -143,48 +160,48 @@ goal-needed (List·Memᴰ·head e) = root e
 goal-needed (List·Memᴰ·tail m) = listed m
 
 module _ {parent : ℕ → ℕ} {rules : List Rule} {count : ℕ} {reach : ℕ → ℕ → ℕ → Bool} (desc : Descending parent)
-  (within : RulesIn count rules) (decides : Decides parent rules count reach) where
+    (within : RulesIn count rules) (decides : Decides parent rules count reach) where
   -- a part on c with goals of its own holds each of them
   chain-holds : {goals : List ℕ} {c g : ℕ} (v : Goals parent count 0 goals) → Below parent c (meetAll parent goals) → List·Memᴰ g goals
-    → PartHolds pathOf (kidsOf parent count reach) (record { path = c; goals = goals }) g
+      → PartHolds pathOf (kidsOf parent count reach) (record { path = c; goals = goals }) g
   chain-holds {g = g} v b m =
       let w = named-goals desc within decides v (chain-named desc within decides v b) in
       part-holds-iff desc within decides w .1 (record { goal = g; listed = m; reach = reach-refl (w .below g m) })
 
   -- the document for an implication's no
   pub implication-no : {p q c : ℕ} {d : Forest} → p < count → Context parent p q c → (Reach parent rules c p q → ⊥)
-    → (Dead parent rules p → ⊥) → Unfolds pathOf (kidsOf parent count reach) (implicationPart p ∷ []) d
-    → BreaksImplication parent rules count p q d
+      → (Dead parent rules p → ⊥) → Unfolds pathOf (kidsOf parent count reach) (implicationPart p ∷ []) d
+      → BreaksImplication parent rules count p q d
   unfolding meetAll
   implication-no {p} {q} {c} l x far alive u =
       let v = one-goals desc l in
       let n = chain-named desc within decides v (x .left) in
       record {
-        isDocument = tree-document desc within decides v u
-        ; obeys = tree-obeys desc within decides v
+        isDocument = tree-document desc within decides v u;
+        obeys = tree-obeys desc within decides v
             (λ g m k. alive (subst (λ (z : ℕ). Dead parent rules z) (List·Memᴰ·eq-of-singleton m) k))
-            (λ k. alive (clash-dead desc k (List·Memᴰ·eq-of-singleton (k .left .listed)) (List·Memᴰ·eq-of-singleton (k .right .listed)))) u
-        ; breaks = λ i.
+            (λ k. alive (clash-dead desc k (List·Memᴰ·eq-of-singleton (k .left .listed)) (List·Memᴰ·eq-of-singleton (k .right .listed)))) u;
+        breaks = λ i.
             far (only-goal (part-holds-iff desc within decides (named-goals desc within decides v n) .0
-              (parts-implication u p q .1 i .every c x (record { path = c; goals = p ∷ [] }) n refl
-                (chain-holds v (x .left) (List·Memᴰ·head refl)))))
-        }
+            (parts-implication u p q .1 i .every c x (record { path = c; goals = p ∷ [] }) n refl
+            (chain-holds v (x .left) (List·Memᴰ·head refl)))));
+      }
 
   -- the document for an absence's no
   pub absence-no : {p q c : ℕ} {d : Forest} → p < count → q < count → Context parent p q c
-    → (Dead parent rules p ⊎ (Dead parent rules q ⊎ Pair parent rules c p q) → ⊥)
-    → Unfolds pathOf (kidsOf parent count reach) (absencePart p q ∷ []) d → BreaksAbsence parent rules count p q d
+      → (Dead parent rules p ⊎ (Dead parent rules q ⊎ Pair parent rules c p q) → ⊥)
+      → Unfolds pathOf (kidsOf parent count reach) (absencePart p q ∷ []) d → BreaksAbsence parent rules count p q d
   absence-no {p} {q} {c} lp lq x free u =
       let v = both-goals desc lp lq in
       let m = both-context desc p q in
       let b : Below parent c (meetAll parent (bothGoals p q)) = m .longest c (x .left) (x .right) in
       record {
-        isDocument = tree-document desc within decides v u
-        ; obeys = tree-obeys desc within decides v (λ g n k. free (gone g (both-cases p q g n) k)) (λ k. free (clash-both desc x k)) u
-        ; breaks = λ i.
+        isDocument = tree-document desc within decides v u;
+        obeys = tree-obeys desc within decides v (λ g n k. free (gone g (both-cases p q g n) k)) (λ k. free (clash-both desc x k)) u;
+        breaks = λ i.
             parts-absence u p q .1 i .never c x (record { path = c; goals = bothGoals p q }) (chain-named desc within decides v b) refl
-              (chain-holds v b (both-left p q)) (chain-holds v b (both-right p q))
-        }
+            (chain-holds v b (both-left p q)) (chain-holds v b (both-right p q));
+      }
     where
       gone : (g : ℕ) → (g ≡ p) ⊎ (g ≡ q) → Dead parent rules g → Dead parent rules p ⊎ (Dead parent rules q ⊎ Pair parent rules c p q)
       gone g (inl e) k = inl (subst (λ (z : ℕ). Dead parent rules z) e k)
@@ -192,18 +209,18 @@ module _ {parent : ℕ → ℕ} {rules : List Rule} {count : ℕ} {reach : ℕ �
 
   -- the document for consistency
   pub consistency-yes : {required : List ℕ} {d : Forest} → 0 < count → ((g : ℕ) → List·Memᴰ g required → g < count)
-    → (Conflict parent rules required → ⊥) → Unfolds pathOf (kidsOf parent count reach) (consistencyPart required ∷ []) d
-    → Witnesses parent rules count required d
+      → (Conflict parent rules required → ⊥) → Unfolds pathOf (kidsOf parent count reach) (consistencyPart required ∷ []) d
+      → Witnesses parent rules count required d
   consistency-yes {required} z h free u =
       let v = needed-goals desc z h in
       record {
-        isDocument = tree-document desc within decides v u
-        ; obeys = tree-obeys desc within decides v (λ g m k. free (dead (goal-needed m) k))
+        isDocument = tree-document desc within decides v u;
+        obeys = tree-obeys desc within decides v (λ g m k. free (dead (goal-needed m) k))
             (λ k. free (pair (k .r) (goal-needed (k .left .listed)) (goal-needed (k .right .listed))
-              (clash-pair desc k (below-trans (k .prefix) (meet-above desc (List·Memᴰ·head refl))) refl refl))) u
-        ; holds = record {
-            each = λ g m.
-                tree-holds desc within decides v u .1
-                  (record { goal = g; listed = List·Memᴰ·tail m; reach = reach-refl (below-root desc g) })
-            }
-        }
+            (clash-pair desc k (below-trans (k .prefix) (meet-above desc (List·Memᴰ·head refl))) refl refl))) u;
+        holds = record {
+          each = λ g m.
+              tree-holds desc within decides v u .1
+              (record { goal = g; listed = List·Memᴰ·tail m; reach = reach-refl (below-root desc g) });
+        };
+      }

@@ -56,8 +56,8 @@ ownEach parent c (g ∷ more) = elim (eqb g c) [ true ↦ ownEach parent c more 
 unfoldable pub ownKids : (parent : ℕ → ℕ) (c : ℕ) (goals : List ℕ) → List Part
 ownKids parent c goals =
     elim (eqb c (meetAll parent goals)) [
-      true ↦ ownEach parent c goals
-    | false ↦ record { path = towards parent c (meetAll parent goals); goals = goals } ∷ []
+      | true ↦ ownEach parent c goals
+      | false ↦ record { path = towards parent c (meetAll parent goals); goals = goals } ∷ []
     ]
 
 -- a part [k; goals] covers x: x is reachable inside k from any of its goals
@@ -68,8 +68,8 @@ coversb reach a x = someb (λ g. reach (a .path) g x) (a .goals)
 unfoldable pub lacksb : (reach : ℕ → ℕ → ℕ → Bool) → Part → (chosen : List Part) (x : ℕ) → Bool
 lacksb reach a chosen x =
     elim (eqb (a .path) x) [
-      true ↦ false
-    | false ↦ elim (coversb reach a x) [ true ↦ not (someb (λ k. coversb reach k x) chosen) | false ↦ false ]
+      | true ↦ false
+      | false ↦ elim (coversb reach a x) [ true ↦ not (someb (λ k. coversb reach k x) chosen) | false ↦ false ]
     ]
 
 -- the paths below `left`, highest number first, each with a child part exactly if no child chosen so far covers it
@@ -77,8 +77,8 @@ unfoldable pub fill : (parent : ℕ → ℕ) (reach : ℕ → ℕ → ℕ → Bo
 fill parent reach a zero chosen = chosen
 fill parent reach a (suc x) chosen =
     elim (lacksb reach a chosen x) [
-      true ↦ fill parent reach a x (chosen ++ (childFor parent (a .path) x ∷ []))
-    | false ↦ fill parent reach a x chosen
+      | true ↦ fill parent reach a x (chosen ++ (childFor parent (a .path) x ∷ []))
+      | false ↦ fill parent reach a x chosen
     ]
 
 -- the children of a part, in a table of `count` paths

@@ -14,5 +14,5 @@ pub data Needed (required : List ℕ) (x : ℕ) : Type 0 where
 -- of them, or one of them is dead (the root counts as required)
 pub data Conflict (parent : ℕ → ℕ) (rules : List Rule) (required : List ℕ) : Type 0 where
   pair : {first second : ℕ} (r : ℕ) → Needed required first → Needed required second → PairBy parent rules 0 first second r
-    → Conflict parent rules required
+      → Conflict parent rules required
   dead : {p : ℕ} → Needed required p → Dead parent rules p → Conflict parent rules required
