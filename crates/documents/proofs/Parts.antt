@@ -129,7 +129,8 @@ module _ {P : Type 0} {path : P → ℕ} {kids : P → List P} where
   copy-holds u = (part-holds u, holds-part u)
 
   -- a list unfolds where what each of its parts names does
-  unfold-list : (ps : List P) → ((p : P) → List·Memᴰ p ps → (u : Forest) × Unfolds path kids (kids p) u) → (f : Forest) × Unfolds path kids ps f
+  unfold-list : (ps : List P) → ((p : P) → List·Memᴰ p ps → (u : Forest) × Unfolds path kids (kids p) u)
+      → (f : Forest) × Unfolds path kids ps f
   unfold-list [] h = (none, nothing)
   unfold-list (p ∷ ps) h =
       let u = h p (List·Memᴰ·head refl) in
@@ -189,7 +190,8 @@ module _ {P : Type 0} {path : P → ℕ} {kids : P → List P} where
       λ h. record {
         every = λ c x a n e hp.
             let k = named-copy u n in
-            copy-holds (k .unfolds) .1 (h .every (path a) (subst (Context parent p q) (sym e) x) (k .under) (k .node) (copy-holds (k .unfolds) .0 hp));
+            copy-holds (k .unfolds) .1
+            (h .every (path a) (subst (Context parent p q) (sym e) x) (k .under) (k .node) (copy-holds (k .unfolds) .0 hp));
       },
     )
 
@@ -227,4 +229,7 @@ module _ {P : Type 0} {path : P → ℕ} {kids : P → List P} where
     -- the forest obeys a list of rules exactly if every named part does
     pub parts-obey : (rules : List Rule) → PartsObey parent path kids ps rules ↔ Obeys parent rules f
     parts-obey rules =
-        (λ h. record { each = λ r ru n. parts-rule ru .0 (h .each r ru n) }, λ h. record { each = λ r ru n. parts-rule ru .1 (h .each r ru n) })
+        (
+          λ h. record { each = λ r ru n. parts-rule ru .0 (h .each r ru n) },
+          λ h. record { each = λ r ru n. parts-rule ru .1 (h .each r ru n) },
+        )

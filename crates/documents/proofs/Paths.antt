@@ -164,7 +164,8 @@ module _ {parent : ℕ → ℕ} (desc : Descending parent) where
 
   -- of two unequal paths the greater number climbs
   context-climb : {p q c : ℕ} → p < q → Context parent p (parent q) c → Context parent p q c
-  context-climb {p} {q} {c} l x = record { left = x .left; right = up (x .right); longest = λ d h k. x .longest d h (pick d h (below-step k)) }
+  context-climb {p} {q} {c} l x =
+      record { left = x .left; right = up (x .right); longest = λ d h k. x .longest d h (pick d h (below-step k)) }
     where
       pick : (d : ℕ) → Below parent d p → (d ≡ q) ⊎ Below parent d (parent q) → Below parent d (parent q)
       pick d h (inl e) = let s : d ≤ p = below-le h in absurd (omega arith)

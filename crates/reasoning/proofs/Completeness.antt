@@ -176,10 +176,10 @@ module _ {parent : ℕ → ℕ} {rules : List Rule} {count : ℕ} {reach : ℕ �
         pick (no n) again =
             let s = parent-strictly desc c (omega arith) in
             let t : parent c < c = strictly-lt desc s in
-            further (record { path = parent c; goals = goals }) again
-            (subst (λ (z : ℕ). List·Memᴰ (record { path = z; goals = goals }) (kidsOf parent count reach (record { path = parent c; goals = goals })))
-            (sym (towards-unique desc s refl b))
-            (handed-kid desc within decides (record { path = parent c; goals = goals }) (λ e. omega (arith, below-le desc b))))
+            let a : Part = record { path = parent c; goals = goals } in
+            further a again
+            (subst (λ (z : ℕ). List·Memᴰ (record { path = z; goals = goals }) (kidsOf parent count reach a))
+            (sym (towards-unique desc s refl b)) (handed-kid desc within decides a (λ e. omega (arith, below-le desc b))))
 
     -- every part on the way from the root to the goals' context, both ends included, carries all goals
     pub chain-named : {c : ℕ} → Below parent c (meetAll parent goals)

@@ -84,7 +84,8 @@ module _ {parent : ℕ → ℕ} (desc : Descending parent) where
       pick d h k g (inr e) = subst (λ (z : ℕ). Below parent d z) (sym e) k
 
   -- goals of part 0 are any paths of the table
-  root-goals : {count : ℕ} {goals : List ℕ} {some : ℕ} → List·Memᴰ some goals → ((g : ℕ) → List·Memᴰ g goals → g < count) → Goals parent count 0 goals
+  root-goals : {count : ℕ} {goals : List ℕ} {some : ℕ} → List·Memᴰ some goals → ((g : ℕ) → List·Memᴰ g goals → g < count)
+      → Goals parent count 0 goals
   root-goals {some = some} m h = record { some = some; listed = m; below = λ g k. below-root desc g; small = h }
 
   pub one-goals : {count p : ℕ} → p < count → Goals parent count 0 (p ∷ [])
@@ -97,7 +98,8 @@ module _ {parent : ℕ → ℕ} (desc : Descending parent) where
       pick g (inl e) = omega arith
       pick g (inr e) = omega arith
 
-  pub needed-goals : {count : ℕ} {required : List ℕ} → 0 < count → ((g : ℕ) → List·Memᴰ g required → g < count) → Goals parent count 0 (0 ∷ required)
+  pub needed-goals : {count : ℕ} {required : List ℕ} → 0 < count → ((g : ℕ) → List·Memᴰ g required → g < count)
+      → Goals parent count 0 (0 ∷ required)
   needed-goals {count} {required} z h = root-goals (List·Memᴰ·head refl) (λ g m. pick g (List·Memᴰ·cases-cons m))
     where
       pick : (g : ℕ) → (g ≡ 0) ⊎ List·Memᴰ g required → g < count

@@ -40,6 +40,7 @@ use Rattle.reasoning.specs.Parts.{
   Decides,
   meetAll,
   childFor,
+  childForAll,
   ownEach,
   ownKids,
   coversb,
@@ -58,7 +59,7 @@ pub record Goals (parent : ℕ → ℕ) (count c : ℕ) (goals : List ℕ) : Typ
 -- what a child of [c; goals] is: one with all goals, on the way to their context, or one with a reachable path as its goal
 pub data KidOf (parent : ℕ → ℕ) (rules : List Rule) (c : ℕ) (goals : List ℕ) : Part → Type 0 where
   handed : (c ≡ meetAll parent goals → ⊥)
-      → KidOf parent rules c goals (record { path = towards parent c (meetAll parent goals); goals = goals })
+      → KidOf parent rules c goals (childForAll parent c goals)
   alone : (x : ℕ) → (c ≡ x → ⊥) → ReachAny parent rules c goals x → KidOf parent rules c goals (childFor parent c x)
 
 module _ {parent : ℕ → ℕ} (desc : Descending parent) where
@@ -153,12 +154,14 @@ module _ {parent : ℕ → ℕ} {rules : List Rule} {count : ℕ} {reach : ℕ �
         record {
           goal = s .member;
           listed = s .listed;
-          reach = decides .exactly (a .path) (s .member) x (v .below (s .member) (s .listed)) (v .small (s .member) (s .listed)) l .0 (s .passes);
+          reach = exact (s .member) (s .listed) .0 (s .passes);
         },
     λ r.
-        some-someb (λ g. reach (a .path) g x) (r .goal) (r .listed)
-        (decides .exactly (a .path) (r .goal) x (v .below (r .goal) (r .listed)) (v .small (r .goal) (r .listed)) l .1 (r .reach)),
+        some-someb (λ g. reach (a .path) g x) (r .goal) (r .listed) (exact (r .goal) (r .listed) .1 (r .reach)),
   )
+    where
+      exact : (g : ℕ) → List·Memᴰ g (a .goals) → T (reach (a .path) g x) ↔ Reach parent rules (a .path) g x
+      exact g m = decides .exactly (a .path) g x (v .below g m) (v .small g m) l
 
   -- a reachable path other than c is strictly below c
   any-strictly : {c x : ℕ} {goals : List ℕ} → (c ≡ x → ⊥) → ReachAny parent rules c goals x → StrictlyBelow parent c x
@@ -191,7 +194,8 @@ module _ {parent : ℕ → ℕ} {rules : List Rule} {count : ℕ} {reach : ℕ �
       some = x;
       listed = List·Memᴰ·head refl;
       below = λ g m.
-          subst (λ (z : ℕ). Below parent (towards parent c x) z) (sym (List·Memᴰ·eq-of-singleton m)) (towards-below desc (any-strictly n r));
+          subst (λ (z : ℕ). Below parent (towards parent c x) z) (sym (List·Memᴰ·eq-of-singleton m))
+          (towards-below desc (any-strictly n r));
       small = λ g m. omega (arith, List·Memᴰ·eq-of-singleton m, any-small desc within v r);
     }
 
@@ -228,7 +232,8 @@ module _ {parent : ℕ → ℕ} {rules : List Rule} {count : ℕ} {reach : ℕ �
       alone-is : (x : ℕ) → (c ≡ x → ⊥) → ReachAny parent rules c (a .goals) x → k ≡ childFor parent c x → KidOf parent rules c (a .goals) k
       alone-is x n r e = subst (λ (z : Part). KidOf parent rules c (a .goals) z) (sym e) (alone x n r)
 
-      owned : (b : Bool) → eqb c (meetAll parent (a .goals)) ≡ b → List·Memᴰ k (ownKids parent c (a .goals)) → KidOf parent rules c (a .goals) k
+      owned : (b : Bool) → eqb c (meetAll parent (a .goals)) ≡ b → List·Memᴰ k (ownKids parent c (a .goals))
+          → KidOf parent rules c (a .goals) k
       owned true e l =
           let o = own-each c (a .goals) (rw (ownKids, e) at l) in
           alone-is (o .goal) (o .other)
@@ -261,11 +266,12 @@ module _ {parent : ℕ → ℕ} {rules : List Rule} {count : ℕ} {reach : ℕ �
 
   -- the child on the way to the goals' context
   pub handed-kid : (a : Part) → (a .path ≡ meetAll parent (a .goals) → ⊥)
-      → List·Memᴰ (record { path = towards parent (a .path) (meetAll parent (a .goals)); goals = a .goals }) (kidsOf parent count reach a)
+      → List·Memᴰ (childForAll parent (a .path) (a .goals)) (kidsOf parent count reach a)
   unfolding kidsOf ownKids
-  handed-kid a n = fill-keeps parent reach a count (ownKids parent (a .path) (a .goals)) _ (pick (eqb (a .path) (meetAll parent (a .goals))) refl)
+  handed-kid a n =
+      fill-keeps parent reach a count (ownKids parent (a .path) (a .goals)) _ (pick (eqb (a .path) (meetAll parent (a .goals))) refl)
     where
       pick : (b : Bool) → eqb (a .path) (meetAll parent (a .goals)) ≡ b
-          → List·Memᴰ (record { path = towards parent (a .path) (meetAll parent (a .goals)); goals = a .goals }) (ownKids parent (a .path) (a .goals))
+          → List·Memᴰ (childForAll parent (a .path) (a .goals)) (ownKids parent (a .path) (a .goals))
       pick true e = absurd (n (eqb-true (a .path) (meetAll parent (a .goals)) e))
       pick false e = rw (e, ownKids) (List·Memᴰ·head refl)

@@ -47,6 +47,10 @@ meetAll parent (g ∷ h ∷ more) = contextOf parent g (meetAll parent (h ∷ mo
 abbrev pub childFor : (parent : ℕ → ℕ) (c x : ℕ) → Part
 childFor parent c x = record { path = towards parent c x; goals = x ∷ [] }
 
+-- the child part of a part on c that has all of its goals: on c's child path towards their context
+abbrev pub childForAll : (parent : ℕ → ℕ) (c : ℕ) (goals : List ℕ) → Part
+childForAll parent c goals = record { path = towards parent c (meetAll parent goals); goals = goals }
+
 -- a child for each goal other than c
 unfoldable pub ownEach : (parent : ℕ → ℕ) (c : ℕ) → List ℕ → List Part
 ownEach parent c [] = []
@@ -57,7 +61,7 @@ unfoldable pub ownKids : (parent : ℕ → ℕ) (c : ℕ) (goals : List ℕ) →
 ownKids parent c goals =
     elim (eqb c (meetAll parent goals)) [
       | true ↦ ownEach parent c goals
-      | false ↦ record { path = towards parent c (meetAll parent goals); goals = goals } ∷ []
+      | false ↦ childForAll parent c goals ∷ []
     ]
 
 -- a part [k; goals] covers x: x is reachable inside k from any of its goals
