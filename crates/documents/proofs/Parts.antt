@@ -228,8 +228,7 @@ module _ {P : Type 0} {path : P → ℕ} {kids : P → List P} where
 
     -- the forest obeys a list of rules exactly if every named part does
     pub parts-obey : (rules : List Rule) → PartsObey parent path kids ps rules ↔ Obeys parent rules f
-    parts-obey rules =
-        (
-          λ h. record { each = λ r ru n. parts-rule ru .0 (h .each r ru n) },
-          λ h. record { each = λ r ru n. parts-rule ru .1 (h .each r ru n) },
-        )
+    parts-obey rules = (
+      λ h. record { each = λ r ru n. parts-rule ru .0 (h .each r ru n) },
+      λ h. record { each = λ r ru n. parts-rule ru .1 (h .each r ru n) },
+    )
