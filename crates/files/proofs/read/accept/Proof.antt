@@ -13,7 +13,7 @@ returns : tie.Need-returns
 returns c = search (needs, accept-left)
 
 returns-2 : tie.Need-returns-2
-returns-2 c = search (needs, accept-left, accept-is)
+returns-2 c = search (needs, accept-is)
 
 pub accept-spec : {M : Type 1} → statement M
 accept-spec = tie.close (tie.spec refuse-requires returns returns-2)
