@@ -3,3 +3,5 @@ pub mod Tree
 pub mod Obey
 pub mod Parts
 pub mod Extent
+pub mod Checking
+pub mod PartList
