@@ -1,8 +1,11 @@
 -- The crate's laws.
+pub mod Depths
 pub mod Formats
+pub mod Leading
 pub mod Numbers
 pub mod Padded
 pub mod Reader
+pub mod Rows
 pub mod SetBits
 pub mod SetLowest
 pub mod SetMembers
