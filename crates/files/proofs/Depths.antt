@@ -27,10 +27,11 @@ module _ {A : Type 0} (f : A → ℕ) where
   map-there [] p after = refl
   map-there (q ∷ before) p after = map-there before p after
 
-  pub map-before : (before rest : List A) (i : ℕ) → i < length before → getD (map f (before ++ rest)) i 0 ≡ getD (map f before) i 0
-  map-before [] rest i h = absurd (omega arith)
-  map-before (q ∷ before) rest zero h = refl
-  map-before (q ∷ before) rest (suc i) h = map-before before rest i (omega arith)
+  pub map-before : (v : ℕ) (before rest : List A) (x : ℕ) → x < 1 + length before
+      → getD (v ∷ map f (before ++ rest)) x 0 ≡ getD (v ∷ map f before) x 0
+  map-before v before rest zero h = refl
+  map-before v [] rest (suc i) h = absurd (omega arith)
+  map-before v (q ∷ before) rest (suc i) h = map-before (f q) before rest i (omega arith)
 
 deeper-append : (ds : List ℕ) (ps qs : List Path) → deeper ds (ps ++ qs) ≡ deeper (deeper ds ps) qs
 unfolding deeper
@@ -79,7 +80,7 @@ depths-there before p after =
     ∙ ap (λ (k : ℕ). getD (ds ++ (v ∷ [])) k 0) (sym long)
     ∙ getD-append-seam ds v [] 0
 
-depths-root : (ps : List Path) → getD (depths ps) 0 0 ≡ 1
+pub depths-root : (ps : List Path) → getD (depths ps) 0 0 ≡ 1
 unfolding depths
 depths-root ps = deeper-keeps (1 ∷ []) ps 0 (omega arith)
 

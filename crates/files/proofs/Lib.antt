@@ -4,9 +4,11 @@ pub mod Formats
 pub mod Leading
 pub mod Numbers
 pub mod Padded
+pub mod Passing
 pub mod Reader
 pub mod Rows
 pub mod SetBits
 pub mod SetLowest
 pub mod SetMembers
 mod SetWords
+pub mod ValidTables

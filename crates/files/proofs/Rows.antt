@@ -26,6 +26,15 @@ row-of k answer condition some (inl h) =
 row-of k answer condition some (inr h) =
     record { met = (λ e. absurd (omega (arith, e, h .1)), λ c. absurd (h .0 c)); passed = (λ e. h .0, λ n. h .1) }
 
+-- a number passes exactly where it stands between the two
+pub between-passes : (low past k n : ℕ) → 0 < k → (between low past k n ≡ 0) ↔ ((low ≤ n) × (n < past))
+between-passes low past k n some = (by (decLt n low) (decLt n past), λ h. between-in low past k n (h .0) (h .1))
+  where
+    by : Dec (n < low) → Dec (n < past) → between low past k n ≡ 0 → (low ≤ n) × (n < past)
+    by (yes h) d e = absurd (omega (arith, between-low low past k n h))
+    by (no h) (yes l) e = (omega arith, l)
+    by (no h) (no l) e = absurd (omega (arith, between-past low past k n (omega arith) (omega arith)))
+
 -- the row of a number that has to stand from `low` up to and without `past`, its condition said in other words
 row-between : (low past k n : ℕ) (condition : Type 0) → 0 < k → (n < low → condition) → (past ≤ n → condition) → (low ≤ n → n < past → ¬ condition)
     → Row k (between low past k n) condition
