@@ -1,8 +1,26 @@
 -- Laws of numbers that lead through one format and then through another.
-use Prim.Native.Nat.{ℕ}
+use Prim.Native.Nat.{ℕ, _<_}
 use mathlib.Core.Path.{_≡_, refl, ap}
 use mathlib.Core.List.{List, [], _∷_, _++_}
+use Rattle.files.specs.Number.{limit}
 use Rattle.files.specs.Format.{Format, done, want, andThen, Leads, here, take}
+
+-- numbers that lead from a wanted number to a value: a number that passes its test, and the rest
+pub record Wanted {A : Type 0} (test : ℕ → ℕ) (next : ℕ → Format A) (a : A) (ns : List ℕ) : Type 0 where
+  pub number : ℕ
+  pub rest : List ℕ
+  pub all : ns ≡ number ∷ rest
+  pub small : number < limit
+  pub passes : test number ≡ 0
+  pub leads : Leads (next number) rest (done a)
+
+pub leads-want : {A : Type 0} (test : ℕ → ℕ) (next : ℕ → Format A) {a : A} {ns : List ℕ} → Leads (want test next) ns (done a) → Wanted test next a ns
+leads-want test next (take {n = n} {ns = ms} small ok l) =
+    record { number = n; rest = ms; all = refl; small = small; passes = ok; leads = l }
+
+-- no number leads from a value
+pub leads-done : {A : Type 0} {a b : A} {ns : List ℕ} → Leads (done a) ns (done b) → (ns ≡ []) × (a ≡ b)
+leads-done here = (refl, refl)
 
 -- numbers that lead through a format, then numbers that lead on from its value
 pub leads-then : {A B : Type 0} {f : Format A} {a : A} {ns ms : List ℕ} {h : Format B} (g : A → Format B)

@@ -1,5 +1,6 @@
 -- The crate's laws.
 pub mod Depths
+pub mod FileParts
 pub mod Formats
 pub mod Leading
 pub mod Numbers
@@ -7,6 +8,7 @@ pub mod Padded
 pub mod Passing
 pub mod Reader
 pub mod Rows
+pub mod RuleFiles
 pub mod SetBits
 pub mod SetLowest
 pub mod SetMembers
