@@ -130,13 +130,15 @@ one-rule-only count {ns} l =
     kind .all
     ∙ ap (λ (t : List ℕ). kind .number ∷ t)
     (left .all ∙ ap (λ (t : List ℕ). left .number ∷ t) (right .all ∙ ap (λ (t : List ℕ). right .number ∷ t) (end .0))) in
-    subst (λ (ru : Rule). RuleGood count ru × (ns ≡ ru .kind ∷ ru .left ∷ ru .right ∷ [])) (end .1)
-    (record {
-      some = k .0;
-      known = omega (arith, k .1);
-      left = between-passes 0 count 10 (left .number) (omega arith) .0 (left .passes) .1;
-      right = between-passes 0 count 10 (right .number) (omega arith) .0 (right .passes) .1;
-    }, is)
+    subst (λ (ru : Rule). RuleGood count ru × (ns ≡ ru .kind ∷ ru .left ∷ ru .right ∷ [])) (end .1) (
+      record {
+        some = k .0;
+        known = omega (arith, k .1);
+        left = between-passes 0 count 10 (left .number) (omega arith) .0 (left .passes) .1;
+        right = between-passes 0 count 10 (right .number) (omega arith) .0 (right .passes) .1;
+      },
+      is,
+    )
 
 one-rule-if : (count : ℕ) (ru : Rule) → count ≤ 64 → RuleGood count ru → Leads (oneRule count) (ru .kind ∷ ru .left ∷ ru .right ∷ []) (done ru)
 unfolding oneRule

@@ -13,4 +13,5 @@ pub mod SetBits
 pub mod SetLowest
 pub mod SetMembers
 mod SetWords
+pub mod TableTests
 pub mod ValidTables

@@ -78,9 +78,10 @@ file-only {ns} {r} l =
     all : (count root : ℕ) → 1 ≤ count → count < 65 → root < limit → {front back : List ℕ} {ps : List Path} {q : RuleSet}
         → PathsLed [] (pred count) front ps → AfterPaths root ps back q → Passing q × (count ∷ root ∷ (front ++ back) ≡ numbersOf q)
     all count root some few small (paths-led ps e t) (required-after req rs a w many u) =
-        let is : count ≡ 1 + length ps = omega arith in
-        (record { count = omega arith; root = small; paths = t; required = a; present = w; many = many; rules = u },
-        ap (λ (n : ℕ). n ∷ root ∷ (pathNumbers ps ++ (length req ∷ (req ++ (length rs ∷ ruleNumbers rs))))) is)
+        let is : count ≡ 1 + length ps = omega arith in (
+          record { count = omega arith; root = small; paths = t; required = a; present = w; many = many; rules = u },
+          ap (λ (n : ℕ). n ∷ root ∷ (pathNumbers ps ++ (length req ∷ (req ++ (length rs ∷ ruleNumbers rs))))) is,
+        )
 
     split : (count root : ℕ) → 1 ≤ count → count < 65 → root < limit → {ms : List ℕ} → Led (morePaths (pred count) []) (λ ps. afterPaths root ps) r ms
         → Passing r × (count ∷ root ∷ ms ≡ numbersOf r)

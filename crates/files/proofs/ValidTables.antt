@@ -57,11 +57,11 @@ module _ (root : ℕ) (before : List Path) (p : Path) (after : List Path) where
         smaller = omega (arith, parent-there, k .smaller own (omega arith) in-table);
         shallow = omega (arith, depths-there before p after, k .depth own (getD (depths all) own 0) in-table (depth-is all (k .smaller) own in-table));
         new =
-          row-6 root (p .parent) (p .label) before .passed .1
-          (λ r.
-          let h : r .path < own = omega (arith, r .earlier) in
-          k .distinct (r .path) own (r .other) h in-table (parent-before (r .path) h ∙ r .parent ∙ sym parent-there)
-          (label-before (r .path) h ∙ r .label ∙ sym label-there));
+            row-6 root (p .parent) (p .label) before .passed .1
+            (λ r.
+            let h : r .path < own = omega (arith, r .earlier) in
+            k .distinct (r .path) own (r .other) h in-table (parent-before (r .path) h ∙ r .parent ∙ sym parent-there)
+            (label-before (r .path) h ∙ r .label ∙ sym label-there));
         label = omega (arith, label-there, k .label own in-table);
       }
 
@@ -103,9 +103,9 @@ module _ (ps : List Path) (ok : pathsPass [] ps ≡ true) where
               other = pos;
               earlier = h′;
               parent =
-                sym (map-before (λ (q : Path). q .parent) 0 before (p ∷ after) x h′) ∙ e ∙ map-there (λ (q : Path). q .parent) before p after;
+                  sym (map-before (λ (q : Path). q .parent) 0 before (p ∷ after) x h′) ∙ e ∙ map-there (λ (q : Path). q .parent) before p after;
               label =
-                sym (map-before (λ (q : Path). q .label) root before (p ∷ after) x h′) ∙ f ∙ map-there (λ (q : Path). q .label) before p after;
+                  sym (map-before (λ (q : Path). q .label) root before (p ∷ after) x h′) ∙ f ∙ map-there (λ (q : Path). q .label) before p after;
             })
 
     passed-label : root < limit → (x : ℕ) → x < 1 + length ps → getD (labels root ps) x 0 < limit
@@ -135,14 +135,14 @@ valid-passing r v =
       count = v .paths;
       root = v .label 0 (omega arith);
       paths =
-        kept-passes (r .root) (r .paths)
-        (record { smaller = v .smaller; depth = v .depth; distinct = v .distinct; label = v .label });
+          kept-passes (r .root) (r .paths)
+          (record { smaller = v .smaller; depth = v .depth; distinct = v .distinct; label = v .label });
       required = v .required;
       present = v .present;
       many = v .rules;
       rules =
-        rules-made (1 + length (r .paths)) (r .rules)
-        (λ n ru m. record { some = v .kind n ru m .0; known = v .kind n ru m .1; left = v .left n ru m; right = v .right n ru m });
+          rules-made (1 + length (r .paths)) (r .rules)
+          (λ n ru m. record { some = v .kind n ru m .0; known = v .kind n ru m .1; left = v .left n ru m; right = v .right n ru m });
     }
 
 pub passing-valid : (r : RuleSet) → Passing r → Valid r
