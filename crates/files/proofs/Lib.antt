@@ -10,6 +10,7 @@ pub mod Reader
 pub mod ReaderFile
 pub mod ReaderPaths
 pub mod ReaderRules
+pub mod ReadingJoins
 pub mod Rows
 pub mod RuleFiles
 pub mod SetBits

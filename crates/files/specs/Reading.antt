@@ -16,9 +16,9 @@ use Rattle.files.specs.declared.read.Reading.{Reading}
 use Rattle.files.specs.declared.read.Section.{Section}
 use Rattle.files.specs.Rules.{padded, addAll, tableOf, noRules}
 use Rattle.files.specs.Number.{limit, numberIn}
-use Rattle.files.specs.Format.{Outcome, got, refused, runAll}
-use Rattle.files.specs.RuleFile.{ruleFile}
-use Rattle.files.specs.Table.{Path, Rule, RuleSet, parents, labels}
+use Rattle.files.specs.Format.{Outcome, got, refused, runAll, RefusedAt}
+use Rattle.files.specs.RuleFile.{ruleFile, fileOf}
+use Rattle.files.specs.Table.{Path, Rule, RuleSet, Valid, parents, labels}
 
 -- a number where its test says 0, else that refusal
 unfoldable pub passed : ℕ → ℕ → ℕ → Number
@@ -75,3 +75,21 @@ readingOf (refused k at) = record { answer = Answer.Refused k at; rules = tableO
 -- what reading a rule file answers
 unfoldable pub readAnswer : List ℕ → Reading
 readAnswer s = readingOf (runAll ruleFile s)
+
+-- the rule set that a file was accepted with
+pub record AcceptedFile (s : List ℕ) (r : Reading) : Type 0 where
+  pub rules : RuleSet
+  pub valid : Valid rules
+  pub file : s ≡ fileOf rules
+  pub table : r .rules ≡ tableOf rules
+
+-- what reading a rule file promises, on all bytes
+pub record ReadRules (s : List ℕ) (r : Reading) : Type 0 where
+  -- the answer
+  pub answer : r ≡ readAnswer s
+  -- accepted exactly if the bytes are the file of a valid rule set, which is handed back
+  pub accepted : r .answer ≡ Accepted → AcceptedFile s r
+  pub accepts : (q : RuleSet) → Valid q → s ≡ fileOf q → r ≡ record { answer = Accepted; rules = tableOf q }
+  -- refused with a number at a place exactly if the numbers before it pass their tests and there reading stops with it
+  pub refused : (k at : ℕ) → r .answer ≡ Answer.Refused k at → RefusedAt ruleFile s k at
+  pub refuses : (k at : ℕ) → RefusedAt ruleFile s k at → r ≡ record { answer = Answer.Refused k at; rules = tableOf noRules }

@@ -8,7 +8,7 @@ ghost use Rattle.files.specs.Format.{run, atEnd, got, refused};
 ghost use Rattle.files.specs.Table.{Path, RuleSet};
 ghost use Rattle.files.specs.RuleFile.{between, sameChild, repeats, parentTest, pathLabel, onePath, morePaths, depths, moreRequired, ruleRight, ruleLeft, oneRule, moreRules, rulesToEnd, afterRequired, requiredOn, afterPaths, afterRoot, afterCount};
 ghost use Rattle.files.specs.Rules.{pathsFrom, padded, addAll, tableOf};
-ghost use Rattle.files.specs.Reading.{tested, pathAnswer, pathsAnswer, requiredAnswer, ruleAnswer, ruleListAnswer, PathsIn, readingOf, readAnswer};
+ghost use Rattle.files.specs.Reading.{tested, pathAnswer, pathsAnswer, requiredAnswer, ruleAnswer, ruleListAnswer, PathsIn, readingOf, ReadRules};
 
 use crate::number::Number;
 use crate::number::read_number;
@@ -477,7 +477,7 @@ fn read_root(s: &[u8], at: usize, count: u32) -> Reading
 
 // A rule file.
 pub fn read_rules(bytes: &[u8]) -> Reading
-    ensures { λ r. ⌜ r ≡ readAnswer (now (bytes .entry)) ⌝ }
+    ensures { λ r. ⌜ ReadRules (now (bytes .entry)) r ⌝ }
 {
     match read_between(bytes, 0, 1, 65, 3) {
         Number::Refused(why) => refuse(why, 0),
