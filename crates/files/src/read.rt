@@ -135,13 +135,13 @@ fn parent_test(depth: &[u8; 64], own: usize, p: u32) -> u8
     ensures { λ r. ⌜ r ≡ parentTest (now (depth .entry)) own p ⌝ }
 {
     let x = wide_number(p);
-    if x < own {
-        if wide(depth[x]) < 8 {
-            return 0;
-        }
-        return 5;
+    if own <= x {
+        return 4;
     }
-    4
+    if wide(depth[x]) < 8 {
+        return 0;
+    }
+    5
 }
 
 // The label of path `own`, whose parent `p` passed its test, and the path.
@@ -300,9 +300,9 @@ fn read_rule_list(s: &[u8], at: usize, count: u32, many: usize) -> RuleList
     let mut i = 0usize;
     while i < many {
         match read_rule(s, next, count) {
-            OneRule::Refused(why, place) => {
+            OneRule::Refused(number, place) => {
                 return RuleList {
-                    end: Section::Refused(why, place),
+                    end: Section::Refused(number, place),
                     kind: [0u8; 256],
                     left: [0u8; 256],
                     right: [0u8; 256],
