@@ -6,14 +6,14 @@ use mathlib.Core.Bool.{true}
 use mathlib.Core.List.{List, [], _∷_, _++_, append-nil}
 use native.Mathlib.Omega.{arith}
 use lib.ListN.{length}
-use Rattle.files.specs.Format.{done, got, runAll, Leads, here, take}
+use Rattle.files.specs.Format.{done, got, refused, runAll, Leads, here, take, RefusedAt}
 use Rattle.files.specs.Number.{limit, Bytes, bytesOfAll}
 use Rattle.files.specs.RuleFile.{moreRules, morePaths, moreRequired, afterRequired, afterPaths, afterRoot, afterCount, ruleFile, pathNumbers, ruleNumbers, numbersOf, fileOf}
 use Rattle.files.specs.Sets.{Ascending}
 use Rattle.files.specs.Table.{Path, Rule, RuleSet, Valid}
 use Rattle.files.specs.Writing.{rulesPass}
 use Rattle.files.proofs.FileParts.{PathsLed, paths-led, more-paths-only, more-paths-if, Within, RequiredLed, required-led, more-required-only, more-required-if, ascending-few, RulesLed, rules-led, more-rules-only, more-rules-if}
-use Rattle.files.proofs.Formats.{accepted-if, accepted-only}
+use Rattle.files.proofs.Formats.{accepted-if, accepted-only, refused-if, refused-only}
 use Rattle.files.proofs.Leading.{leads-want, leads-done, leads-then, Led, led, leads-split}
 use Rattle.files.proofs.Rows.{between-passes}
 use Rattle.files.proofs.ValidTables.{Passing, valid-passing, passing-valid}
@@ -158,6 +158,10 @@ one-file r q v w e =
     let b = written-reads q w in
     let c : runAll ruleFile (fileOf r) ≡ runAll ruleFile (fileOf q) = ap (runAll ruleFile) e in
     cc
+
+-- bytes are refused with number k at a place exactly if numbers that pass their tests lead there, and there reading stops with k
+pub refused-file : (s : List ℕ) → Bytes s → (k at : ℕ) → (runAll ruleFile s ≡ refused k at) ↔ RefusedAt ruleFile s k at
+refused-file s bs k at = (refused-only ruleFile s bs k at, refused-if ruleFile s k at)
 
 -- bytes are accepted with at most one rule set
 pub one-reading : (s : List ℕ) (r q : RuleSet) (at to : ℕ) → runAll ruleFile s ≡ got r at → runAll ruleFile s ≡ got q to → r ≡ q

@@ -143,3 +143,11 @@ pub read-then-write : (s : List ℕ) → Bytes s → (r : RuleSet) → runAll ru
 read-then-write s bs r e out =
     write-valid (tableOf r) (table-word r) (table-valid r (read-only s bs r (length s) e .0)) out
     ∙ ap (λ (bytes : List ℕ). put bytes out) (read-write s bs r e)
+
+-- reading what was written, where the buffer is long enough, gives the same rules
+pub write-then-read : (t : Rules) → t .required < 2 ^ 64 → ValidTable t → (out : List ℕ) → length (fileOf (rulesOf t)) ≤ length out
+    → runAll ruleFile (take (length (fileOf (rulesOf t))) (writeAnswer t out .buffer)) ≡ got (rulesOf t) (length (fileOf (rulesOf t)))
+unfolding put
+write-then-read t f v out h =
+    let file : List ℕ = fileOf (rulesOf t) in
+    rw (write-valid t f v out, le-leb (length file) (length out) h, take-append-seam file (drop (length file) out)) (write-read t v)
