@@ -1,12 +1,12 @@
 -- The longest valid rule file has 1,026 bytes: no valid rule set has a longer one, and one has it.
 use Prim.Native.Nat.{ℕ, zero, suc, _+_, _-_, _*_, _^_, _<_, _≤_}
-use mathlib.Core.Path.{_≡_, refl, sym, ap, _∙_}
-use mathlib.Core.Bool.{Bool, true, false}
-use mathlib.Core.List.{List, [], _∷_, _++_, append-assoc, List·Memᴰ, List·Memᴰ·head, List·Memᴰ·tail}
+use mathlib.Core.Path.{_≡_, refl, ap}
+use mathlib.Core.Bool.{true}
+use mathlib.Core.List.{List, [], _∷_, _++_, List·Memᴰ·head, List·Memᴰ·tail}
 use native.Mathlib.Decide.{decLt}
 use native.Mathlib.Omega.{arith}
 use lib.ListN.{length, replicate, length-append}
-use Rattle.files.specs.Number.{limit, bytesOf, bytesOfAll}
+use Rattle.files.specs.Number.{bytesOf, bytesOfAll}
 use Rattle.files.specs.RuleFile.{between, depths, deeper, parentTest, labelTest, repeats, sameChild, pathNumbers, ruleNumbers, numbersOf, fileOf}
 use Rattle.files.specs.Sets.{bit, common, difference, belowAll, membersFrom, members}
 use Rattle.files.specs.Table.{Path, Rule, RuleSet, Valid}
@@ -15,7 +15,7 @@ use Rattle.files.proofs.FileParts.{Within, ascending-few}
 use Rattle.files.proofs.Numbers.{bytes-short, bytes-long}
 use Rattle.files.proofs.Passing.{both-true, path-passes, rule-passes}
 use Rattle.files.proofs.TableTests.{required-passes}
-use Rattle.files.proofs.ValidTables.{Passing, valid-passing, passing-valid}
+use Rattle.files.proofs.ValidTables.{valid-passing, passing-valid}
 
 -- ---- bytes of numbers
 

@@ -1,22 +1,20 @@
 -- The struct that reading hands back stands for the rule set that was read; so writing and reading undo each other.
-use Prim.Native.Nat.{ℕ, zero, suc, _+_, _-_, _^_, _<_, _≤_}
+use Prim.Native.Nat.{ℕ, suc, _+_, _-_, _^_, _<_, _≤_}
 use mathlib.Core.Path.{_≡_, refl, sym, ap, ap₂, subst, _∙_}
-use mathlib.Core.Logic.{_⊎_, inl, inr, ⊎-elim}
-use mathlib.Core.Bool.{true}
+use mathlib.Core.Logic.{⊎-elim}
 use mathlib.Core.List.{List, [], _∷_, _++_, map, append-nil, List·Memᴰ, List·Memᴰ·head, List·Memᴰ·tail}
 use native.Mathlib.Omega.{arith}
 use lib.ListN.{length, getD, take, drop}
 use lib.Seq.{append-snoc, take-append-seam}
 use borrow.Author.Tests.{le-leb}
 use Rattle.files.specs.declared.rules.Rules.{Rules}
-use Rattle.files.specs.declared.write.Written.the-variants.{Length, Refused}
 use Rattle.files.specs.Format.{got, runAll}
 use Rattle.files.specs.Number.{Bytes}
 use Rattle.files.specs.RuleFile.{ruleFile, fileOf}
 use Rattle.files.specs.Rules.{pathsFrom, rulesFrom, padded, rulesOf, ValidTable, addAll, tableOf}
 use Rattle.files.specs.Sets.{Has, withPath, members, Ascending, none, next}
 use Rattle.files.specs.Table.{Path, Rule, RuleSet, parents, labels, Valid}
-use Rattle.files.specs.Writing.{Put, put, writeAnswer, tablePasses}
+use Rattle.files.specs.Writing.{put, writeAnswer}
 use Rattle.files.proofs.Padded.{padded-get}
 use Rattle.files.proofs.RuleFiles.{written-reads, read-only}
 use Rattle.files.proofs.SetBits.{bit-of-zero, not-has, has-with, with-lt}
@@ -53,7 +51,8 @@ rules-back kind left right x [] f g h = refl
 rules-back kind left right x (r ∷ rs) f g h =
     ap₂ (λ (q : Rule) (qs : List Rule). q ∷ qs)
     (λ i. record { kind = at-first kind x (f 0) i; left = at-first left x (g 0) i; right = at-first right x (h 0) i })
-    (rules-back kind left right (x + 1) rs (λ i. at-next kind x i (f (suc i))) (λ i. at-next left x i (g (suc i))) (λ i. at-next right x i (h (suc i))))
+    (rules-back kind left right (x + 1) rs (λ i. at-next kind x i (f (suc i))) (λ i. at-next left x i (g (suc i)))
+    (λ i. at-next right x i (h (suc i))))
 
 -- ---- the word of required paths
 

@@ -1,7 +1,7 @@
 -- A table breaks no condition of 01 exactly where all of its tests pass.
 use Prim.Native.Nat.{ℕ, zero, suc, _+_, _<_, _≤_}
-use mathlib.Core.Path.{_≡_, refl, sym, ap, subst, _∙_}
-use mathlib.Core.Bool.{Bool, true, false}
+use mathlib.Core.Path.{_≡_, sym, subst, _∙_}
+use mathlib.Core.Bool.{true}
 use mathlib.Core.List.{List, [], _∷_, _++_, List·Memᴰ}
 use native.Mathlib.Omega.{arith}
 use lib.ListN.{length, getD, length-append}
@@ -12,7 +12,7 @@ use Rattle.files.specs.Table.{Path, Rule, Numbered, RuleSet, labels, par
 use Rattle.files.specs.Writing.{pathsPass, rulesPass}
 use Rattle.files.proofs.Depths.{At, at, at-place, parent-there, parent-before, label-there, label-before, depths-there, depths-root, Smaller, depth-only, depth-is}
 use Rattle.files.proofs.Passing.{PathGood, paths-each, paths-made, RuleGood, rules-each, rules-made}
-use Rattle.files.proofs.Rows.{Repeated, row-6}
+use Rattle.files.proofs.Rows.{row-6}
 
 -- the conditions of 01 on the paths of a table
 pub record Kept (root : ℕ) (ps : List Path) : Type 0 where
@@ -31,11 +31,11 @@ good-kept root before p after k =
       smaller = omega (arith, parent-there before p after, k .smaller own (omega arith) h);
       shallow = omega (arith, depths-there before p after, k .depth own (getD (depths all) own 0) h (depth-is all (k .smaller) own h));
       new =
-        row-6 root (p .parent) (p .label) before .passed .1
-        (λ r.
-        k .distinct (r .path) own (r .other) (omega (arith, r .earlier)) h
-        (parent-before before p after (r .path) (r .earlier) ∙ r .parent ∙ sym (parent-there before p after))
-        (label-before before p after root (r .path) (r .earlier) ∙ r .label ∙ sym (label-there before p after root)));
+          row-6 root (p .parent) (p .label) before .passed .1
+          (λ r.
+          k .distinct (r .path) own (r .other) (omega (arith, r .earlier)) h
+          (parent-before before p after (r .path) (r .earlier) ∙ r .parent ∙ sym (parent-there before p after))
+          (label-before before p after root (r .path) (r .earlier) ∙ r .label ∙ sym (label-there before p after root)));
       label = omega (arith, label-there before p after root, k .label own h);
     }
 
