@@ -1,6 +1,7 @@
 -- The crate's laws.
 pub mod Depths
 pub mod FileParts
+pub mod FileSizes
 pub mod Formats
 pub mod Leading
 pub mod Numbers
@@ -17,6 +18,7 @@ pub mod SetBits
 pub mod SetLowest
 pub mod SetMembers
 mod SetWords
+pub mod TableStructs
 pub mod TableTests
 pub mod Tables
 pub mod ValidTables

@@ -2,10 +2,9 @@
 use Prim.Native.Nat.{ℕ, zero, suc, _+_, _-_, _^_, _<_, _≤_}
 use mathlib.Core.Path.{_≡_, refl, sym, ap, subst, _∙_}
 use mathlib.Core.Logic.{_↔_, ⊎-elim}
-use mathlib.Core.Bool.{Bool, true, false}
-use mathlib.Core.List.{List, [], _∷_, List·Memᴰ, List·Memᴰ·head, List·Memᴰ·not-nil, List·Memᴰ·cases-cons}
+use mathlib.Core.Bool.{true}
+use mathlib.Core.List.{List, [], List·Memᴰ, List·Memᴰ·head, List·Memᴰ·not-nil, List·Memᴰ·cases-cons}
 use native.Mathlib.Decide.{decLt, ℕ-discrete}
-use native.Mathlib.Nat.{le-trans}
 use native.Mathlib.Omega.{arith}
 use lib.ListN.{length, getD}
 use lib.Dec.{ltb, eqb}
@@ -15,14 +14,13 @@ use Rattle.files.specs.Number.{limit}
 use Rattle.files.specs.RuleFile.{between}
 use Rattle.files.specs.Rules.{pathsFrom, rulesFrom, rulesOf, ValidTable}
 use Rattle.files.specs.Sets.{Has, common, difference, belowAll, members, Ascending, none, next}
-use Rattle.files.specs.Table.{Valid}
-use Rattle.files.specs.Writing.{both, pathsPass, rulesPass, requiredPass, tablePasses}
+use Rattle.files.specs.Writing.{both, pathsPass, requiredPass, tablePasses}
 use Rattle.files.proofs.FileParts.{Within}
 use Rattle.files.proofs.Passing.{both-true, both-made}
 use Rattle.files.proofs.Rows.{between-passes}
 use Rattle.files.proofs.SetBits.{bit-absent, bit-of-zero, bit-pow-same, bit-pow-other, bit-below-out, not-has, same-bits, has-common, has-difference, has-below, common-lt, difference-lt}
 use Rattle.files.proofs.SetMembers.{mem-members, members-ascending}
-use Rattle.files.proofs.ValidTables.{Passing, valid-passing, passing-valid}
+use Rattle.files.proofs.ValidTables.{valid-passing, passing-valid}
 
 -- ---- required paths
 
