@@ -14,7 +14,8 @@ use Rattle.files.specs.Rules.{pathsFrom, padded}
 use Rattle.files.specs.Reading.{pathAnswer, pathsAnswer}
 use Rattle.files.proofs.Formats.{onward, run-then}
 use Rattle.files.proofs.Padded.{padded-get, padded-store}
-use Rattle.files.proofs.Tables.{map-snoc, depths-snoc, depths-length, paths-padded}
+use Rattle.files.proofs.Depths.{depths-snoc, depths-length}
+use Rattle.files.proofs.Tables.{map-snoc, paths-padded}
 
 -- paths 1 to x - 1 are in the arrays, and reading goes on at `next`
 pub record PathsSoFar (s : List ℕ) (at count root : ℕ) (parent label depth : List ℕ) (next x : ℕ) : Type 0 where

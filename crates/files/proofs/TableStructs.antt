@@ -19,40 +19,8 @@ use Rattle.files.proofs.Padded.{padded-get}
 use Rattle.files.proofs.RuleFiles.{written-reads, read-only}
 use Rattle.files.proofs.SetBits.{bit-of-zero, not-has, has-with, with-lt}
 use Rattle.files.proofs.SetMembers.{members-of-zero, members-with}
+use Rattle.files.proofs.Tables.{paths-back, rules-back}
 use Rattle.files.proofs.TableTests.{passes-valid}
-
--- ---- the arrays
-
--- what an array has from place x on begins with place x, and goes on from the next
-module _ (a : List ℕ) (x : ℕ) where
-  at-first : {v : ℕ} → getD a (x + 0) 0 ≡ v → getD a x 0 ≡ v
-  at-first e = let z : x ≡ x + 0 = omega arith in ap (λ (k : ℕ). getD a k 0) z ∙ e
-
-  at-next : (i : ℕ) {v : ℕ} → getD a (x + suc i) 0 ≡ v → getD a (x + 1 + i) 0 ≡ v
-  at-next i e = let z : x + 1 + i ≡ x + suc i = omega arith in ap (λ (k : ℕ). getD a k 0) z ∙ e
-
-paths-back : (parent label : List ℕ) (x : ℕ) (ps : List Path)
-    → ((i : ℕ) → getD parent (x + i) 0 ≡ getD (map (λ (p : Path). p .parent) ps) i 0)
-    → ((i : ℕ) → getD label (x + i) 0 ≡ getD (map (λ (p : Path). p .label) ps) i 0)
-    → pathsFrom parent label x (length ps) ≡ ps
-unfolding pathsFrom
-paths-back parent label x [] f g = refl
-paths-back parent label x (p ∷ ps) f g =
-    ap₂ (λ (q : Path) (qs : List Path). q ∷ qs) (λ i. record { parent = at-first parent x (f 0) i; label = at-first label x (g 0) i })
-    (paths-back parent label (x + 1) ps (λ i. at-next parent x i (f (suc i))) (λ i. at-next label x i (g (suc i))))
-
-rules-back : (kind left right : List ℕ) (x : ℕ) (rs : List Rule)
-    → ((i : ℕ) → getD kind (x + i) 0 ≡ getD (map (λ (r : Rule). r .kind) rs) i 0)
-    → ((i : ℕ) → getD left (x + i) 0 ≡ getD (map (λ (r : Rule). r .left) rs) i 0)
-    → ((i : ℕ) → getD right (x + i) 0 ≡ getD (map (λ (r : Rule). r .right) rs) i 0)
-    → rulesFrom kind left right x (length rs) ≡ rs
-unfolding rulesFrom
-rules-back kind left right x [] f g h = refl
-rules-back kind left right x (r ∷ rs) f g h =
-    ap₂ (λ (q : Rule) (qs : List Rule). q ∷ qs)
-    (λ i. record { kind = at-first kind x (f 0) i; left = at-first left x (g 0) i; right = at-first right x (h 0) i })
-    (rules-back kind left right (x + 1) rs (λ i. at-next kind x i (f (suc i))) (λ i. at-next left x i (g (suc i)))
-    (λ i. at-next right x i (h (suc i))))
 
 -- ---- the word of required paths
 
