@@ -1,5 +1,6 @@
 -- The crate's laws.
 pub mod Depths
+pub mod Examples
 pub mod FileParts
 pub mod FileSizes
 pub mod Formats
