@@ -7,3 +7,4 @@ pub mod SetBits
 pub mod SetLowest
 pub mod SetMembers
 mod SetWords
+pub mod Stores

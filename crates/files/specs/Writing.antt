@@ -1,8 +1,8 @@
 -- Writing a rule file: the test behind refusal 12, and what the answer and the buffer are.
-use Prim.Native.Nat.{ℕ, zero, suc, _+_, _-_, _<_, _≤_}
+use Prim.Native.Nat.{ℕ, zero, suc, _+_, _-_, _%_, _<_, _≤_}
 use mathlib.Core.Path.{_≡_}
 use mathlib.Core.Bool.{Bool, true, false, cond}
-use mathlib.Core.List.{List, [], _∷_, _++_}
+use mathlib.Core.List.{List, [], _∷_, _++_, map}
 use lib.ListN.{length, getD, drop}
 use lib.Dec.{ltb, leb, eqb}
 use Rattle.files.specs.declared.rules.Rules.{Rules}
@@ -66,3 +66,12 @@ put bytes out =
 -- what writing a table into a lent buffer answers and leaves: refusal 12 first
 unfoldable pub writeAnswer : Rules → List ℕ → Put
 writeAnswer t out = cond (tablePasses t) (put (fileOf (rulesOf t)) out) (record { answer = Refused 12 0; buffer = out })
+
+-- numbers as a file can hold them: one at or past the limit is taken modulo the limit
+unfoldable pub wrapped : List ℕ → List ℕ
+wrapped ns = map (λ (n : ℕ). n % limit) ns
+
+-- the answer and the buffer after the call are those named
+pub record Puts (p : Put) (r : Written) (after : List ℕ) : Type 0 where
+  pub answer : r ≡ p .answer
+  pub buffer : after ≡ p .buffer
