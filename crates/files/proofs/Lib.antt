@@ -1,4 +1,5 @@
 -- The crate's laws.
+pub mod Collect
 pub mod Formats
 pub mod Numbers
 pub mod Padded

@@ -11,6 +11,7 @@ ghost use Rattle.files.specs.Sets.{members};
 ghost use Rattle.files.specs.Writing.{put, wrapped, Puts, writeAnswer};
 use crate::number::put_number;
 use crate::number::size_of;
+use crate::number::wide;
 use crate::rules::Rules;
 use crate::sets;
 
@@ -56,4 +57,56 @@ pub fn put_numbers(numbers: &[u32], out: &mut [u8]) -> Written
     }
     store_all(numbers, out);
     Written::Length(size)
+}
+
+// Path count, root label, parents and labels stored at the start; the place after them.
+fn collect_paths(parent: &[u8; 64], label: &[u32; 64], count: usize, numbers: &mut [u32; 1024]) -> usize
+    requires { ⌜ (1 ≤ count) × (count ≤ 64) ⌝ }
+    ensures { λ r. ⌜ (r ≡ 2 * count) × (now (numbers .exit) ≡ sets (now (numbers .entry)) 0 (count ∷ getD (now (label .entry)) 0 0 ∷ pathNumbers (pathsFrom (now (parent .entry)) (now (label .entry)) 1 (count - 1)))) ⌝ }
+{
+    numbers[0] = count as u32;
+    numbers[1] = label[0];
+    let mut at = 2usize;
+    let mut x = 1usize;
+    while x < count {
+        numbers[at] = wide(parent[x]);
+        numbers[at + 1] = label[x];
+        at += 2;
+        x += 1;
+    }
+    at
+}
+
+// Required count and required paths stored from `start` on; the place after them.
+fn collect_required(required: u64, start: usize, numbers: &mut [u32; 1024]) -> usize
+    requires { ⌜ start ≤ 128 ⌝ }
+    ensures { λ r. ⌜ (r ≡ start + 1 + length (members required)) × (r ≤ start + 65) × (now (numbers .exit) ≡ sets (now (numbers .entry)) start (length (members required) ∷ members required)) ⌝ }
+{
+    numbers[start] = sets::size(required) as u32;
+    let mut at = start + 1;
+    let mut rest = required;
+    while rest != 0 {
+        numbers[at] = sets::lowest(rest) as u32;
+        rest = sets::without_lowest(rest);
+        at += 1;
+    }
+    at
+}
+
+// Rule count and rules stored from `start` on; the place after them.
+fn collect_rules(kind: &[u8; 256], left: &[u8; 256], right: &[u8; 256], count: usize, start: usize, numbers: &mut [u32; 1024]) -> usize
+    requires { ⌜ (count ≤ 256) × (start ≤ 193) ⌝ }
+    ensures { λ r. ⌜ (r ≡ start + 1 + 3 * count) × (now (numbers .exit) ≡ sets (now (numbers .entry)) start (count ∷ ruleNumbers (rulesFrom (now (kind .entry)) (now (left .entry)) (now (right .entry)) 0 count))) ⌝ }
+{
+    numbers[start] = count as u32;
+    let mut at = start + 1;
+    let mut x = 0usize;
+    while x < count {
+        numbers[at] = wide(kind[x]);
+        numbers[at + 1] = wide(left[x]);
+        numbers[at + 2] = wide(right[x]);
+        at += 3;
+        x += 1;
+    }
+    at
 }
