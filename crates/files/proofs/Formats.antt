@@ -30,6 +30,11 @@ module _ {A : Type 0} (test : ℕ → ℕ) (next : ℕ → Format A) where
   unfolding run onNumber onTest
   run-next at s n size e t = rw (e, t)
 
+  -- the same in the bytes of the whole file
+  pub run-on : (s : List ℕ) (at n size : ℕ) → numberIn (drop at s) ≡ Is n size → test n ≡ 0
+    → run (want test next) at (drop at s) ≡ run (next n) (at + size) (drop (at + size) s)
+  run-on s at n size e t = run-next at (drop at s) n size e t ∙ ap (run (next n) (at + size)) (drop-drop size at s)
+
 -- going on after an outcome, in the bytes of the whole file
 unfoldable pub onward : {A B : Type 0} → (A → Format B) → List ℕ → Outcome A → Outcome B
 onward g s (got a at) = run (g a) at (drop at s)

@@ -1,11 +1,11 @@
 -- Laws of numbers: what bytes begin with is exactly one of a number, a cut one and one too long.
-use Prim.Native.Nat.{ℕ, suc, _+_, _*_, _/_, _%_, _<_, _≤_}
+use Prim.Native.Nat.{ℕ, suc, _+_, _*_, _/_, _%_, _^_, _<_, _≤_}
 use mathlib.Core.Path.{_≡_, refl, sym, ap, ap₂, subst, _∙_}
 use mathlib.Core.Bool.{Bool, true, false, cond}
 use mathlib.Core.List.{List, [], _∷_, _++_}
 use native.Mathlib.Omega.{arith}
 use native.Mathlib.Numerals.{add-one}
-use lib.ListN.{length, getD, drop, drop-of-length-le}
+use lib.ListN.{length, getD, drop, drop-of-length-le, length-drop}
 use lib.Seq.{drop-cons}
 use lib.Dec.{ltb, eqb}
 use borrow.Author.Tests.{lt-ltb, le-ltb, eq-eqb, ne-eqb, ltb-true, ltb-false, eqb-true, eqb-false}
@@ -98,6 +98,45 @@ begins (b ∷ rest) bs = by (ltb b 128) refl
         let h : b < 128 = ltb-true b 128 e in
         rw (in-short b rest h) (subst (λ (bs : List ℕ). Begins (bs ++ rest) (Is b (length bs))) (bytes-short b h) (number rest (omega arith)))
     by false e = begins-second b rest (ltb-false b 128 e) (bs .below 0)
+
+-- a number that was read is below the limit, and its bytes stand there
+pub number-bounds : (s : List ℕ) (n size : ℕ) → numberIn s ≡ Is n size → (n < limit) × (1 ≤ size) × (size ≤ 2) × (size ≤ length s)
+unfolding numberIn secondIn
+number-bounds [] n size e = absurd (let z : _≡_ {A = ℕ} 0 1 = cc in omega arith)
+number-bounds (b ∷ rest) n size e = by (ltb b 128) refl
+  where
+    Goal : Type 0
+    Goal = (n < limit) × (1 ≤ size) × (size ≤ 2) × (size ≤ suc (length rest))
+    two : (h m : ℕ) (t : Bool) → eqb h 0 ≡ t → (u : Bool) → ltb 127 h ≡ u → twoBytes b h ≡ Is n size → 1 ≤ m → (n < limit) × (1 ≤ size) × (size ≤ 2) × (size ≤ suc m)
+    two h m true e u f g k = absurd (let a : Refused 2 ≡ Is n size = sym (two-zero b h (eqb-true h 0 e)) ∙ g in let z : _≡_ {A = ℕ} 0 1 = cc in omega arith)
+    two h m false e true f g k =
+        absurd (let a : Refused 2 ≡ Is n size = sym (two-more b h (eqb-false h 0 e) (ltb-true 127 h f)) ∙ g in let z : _≡_ {A = ℕ} 0 1 = cc in omega arith)
+    two h m false e false f g k =
+        let a : Is (b % 128 + h * 128) 2 ≡ Is n size = sym (two-is b h (eqb-false h 0 e) (ltb-false 127 h f)) ∙ g in
+        let value : b % 128 + h * 128 ≡ n = cc in
+        let bytes : 2 ≡ size = cc in
+        let small : h ≤ 127 = ltb-false 127 h f in
+        omega arith
+    long : (rest′ : List ℕ) → secondIn b rest′ ≡ Is n size → (n < limit) × (1 ≤ size) × (size ≤ 2) × (size ≤ suc (length rest′))
+    long [] g = absurd (let z : _≡_ {A = ℕ} 0 1 = cc in omega arith)
+    long (h ∷ rest′) g = two h (suc (length rest′)) (eqb h 0) refl (ltb 127 h) refl g (omega arith)
+    by : (t : Bool) → ltb b 128 ≡ t → Goal
+    by true f =
+        let a : Is b 1 ≡ Is n size = sym (in-short b rest (ltb-true b 128 f)) ∙ e in
+        let value : b ≡ n = cc in
+        let bytes : 1 ≡ size = cc in
+        let small : b < 128 = ltb-true b 128 f in
+        omega arith
+    by false f = long rest (sym (in-second b rest (ltb-false b 128 f)) ∙ e)
+
+-- the place after a number that was read is within the bytes
+pub number-ends : (s : List ℕ) (at n size : ℕ) (r : Number) → r ≡ numberIn (drop at s) → r ≡ Is n size → (n < limit) × (at + size ≤ length s)
+number-ends s at n size r e f =
+    let b : (n < limit) × (1 ≤ size) × (size ≤ 2) × (size ≤ length (drop at s)) = number-bounds (drop at s) n size (sym e ∙ f) in
+    omega (arith, length-drop at s)
+
+pub place-fits : (s : List ℕ) (at n size : ℕ) (r : Number) → r ≡ numberIn (drop at s) → r ≡ Is n size → length s < 2 ^ 64 → at + size < 2 ^ 64
+place-fits s at n size r e f h = omega (arith, number-ends s at n size r e f)
 
 -- the same in the words of the code, which reads at a place of a slice
 pub at-end : (s : List ℕ) (at : ℕ) → length s ≤ at → Refused 1 ≡ numberIn (drop at s)

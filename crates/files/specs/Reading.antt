@@ -1,14 +1,20 @@
 -- What the functions of the reader answer.
 use Prim.Native.Nat.{ℕ, zero, suc, _+_, _≤_, _<_}
 use mathlib.Core.Path.{_≡_}
-use mathlib.Core.List.{List, []}
+use mathlib.Core.List.{List, [], map}
 use lib.ListN.{length, drop, getD}
 use Rattle.files.specs.declared.number.Number.{Number}
 use Rattle.files.specs.declared.number.Number.the-variants.{Is, Refused}
 use Rattle.files.specs.declared.read.OnePath.{OnePath}
+use Rattle.files.specs.declared.read.Paths.{Paths}
+use Rattle.files.specs.declared.read.Required.{Required}
+use Rattle.files.specs.declared.read.OneRule.{OneRule}
+use Rattle.files.specs.declared.read.RuleList.{RuleList}
+use Rattle.files.specs.declared.read.Section.{Section}
+use Rattle.files.specs.Rules.{padded, addAll}
 use Rattle.files.specs.Number.{limit, numberIn}
 use Rattle.files.specs.Format.{Outcome, got, refused}
-use Rattle.files.specs.Table.{Path}
+use Rattle.files.specs.Table.{Path, Rule, parents, labels}
 
 -- a number where its test says 0, else that refusal
 unfoldable pub passed : ℕ → ℕ → ℕ → Number
@@ -24,3 +30,29 @@ tested test (Refused k) = Refused k
 unfoldable pub pathAnswer : List ℕ → Outcome Path → OnePath
 pathAnswer depth (got p next) = OnePath.Is (p .parent) (p .label) (1 + getD depth (p .parent) 0) next
 pathAnswer depth (refused k at) = OnePath.Refused k at
+
+-- the paths that were read, in their arrays; of a refusal the arrays are empty
+unfoldable pub pathsAnswer : ℕ → Outcome (List Path) → Paths
+pathsAnswer root (got ps next) = record { end = Section.Read next; parent = padded 64 (parents ps); label = padded 64 (labels root ps) }
+pathsAnswer root (refused k at) = record { end = Section.Refused k at; parent = padded 64 []; label = padded 64 [] }
+
+-- the required paths that were read, as a set
+unfoldable pub requiredAnswer : Outcome (List ℕ) → Required
+requiredAnswer (got xs next) = Required.Is (addAll 0 xs) next
+requiredAnswer (refused k at) = Required.Refused k at
+
+-- a rule that was read
+unfoldable pub ruleAnswer : Outcome Rule → OneRule
+ruleAnswer (got ru next) = OneRule.Is (ru .kind) (ru .left) (ru .right) next
+ruleAnswer (refused k at) = OneRule.Refused k at
+
+-- the rules that were read, in their arrays; of a refusal the arrays are empty
+unfoldable pub ruleListAnswer : Outcome (List Rule) → RuleList
+ruleListAnswer (got rs next) =
+    record
+    { end = Section.Read next
+    ; kind = padded 256 (map (λ (ru : Rule). ru .kind) rs)
+    ; left = padded 256 (map (λ (ru : Rule). ru .left) rs)
+    ; right = padded 256 (map (λ (ru : Rule). ru .right) rs)
+    }
+ruleListAnswer (refused k at) = record { end = Section.Refused k at; kind = padded 256 []; left = padded 256 []; right = padded 256 [] }

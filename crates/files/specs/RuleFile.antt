@@ -60,11 +60,17 @@ unfoldable pub moreRequired : ℕ → ℕ → ℕ → List ℕ → Format (List 
 moreRequired count zero last xs = done xs
 moreRequired count (suc k) last xs = want (between (1 + last) count 7) (λ x. moreRequired count k x (xs ++ (x ∷ [])))
 
--- one rule
+-- the right path of a rule in a table of `count` paths
+unfoldable pub ruleRight : ℕ → ℕ → ℕ → Format Rule
+ruleRight count k l = want (between 0 count 10) (λ r. done (record { kind = k; left = l; right = r }))
+
+-- its left path, and on
+unfoldable pub ruleLeft : ℕ → ℕ → Format Rule
+ruleLeft count k = want (between 0 count 10) (λ l. ruleRight count k l)
+
+-- one rule: its kind first
 unfoldable pub oneRule : ℕ → Format Rule
-oneRule count =
-    want (between 1 4 9)
-    (λ k. want (between 0 count 10) (λ l. want (between 0 count 10) (λ r. done (record { kind = k; left = l; right = r }))))
+oneRule count = want (between 1 4 9) (λ k. ruleLeft count k)
 
 -- so many rules more
 unfoldable pub moreRules : ℕ → ℕ → List Rule → Format (List Rule)

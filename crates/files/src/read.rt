@@ -5,12 +5,15 @@ ghost use mathlib.Core.List.{List, [], _∷_};
 ghost use lib.ListN.{length, drop, getD};
 ghost use Rattle.files.specs.Number.{numberIn};
 ghost use Rattle.files.specs.Format.{run, atEnd};
-ghost use Rattle.files.specs.RuleFile.{between, sameChild, repeats};
+ghost use Rattle.files.specs.RuleFile.{between, sameChild, repeats, parentTest, pathLabel, onePath, morePaths, depths, moreRequired, ruleRight, ruleLeft, oneRule, moreRules};
 ghost use Rattle.files.specs.Rules.{pathsFrom, padded};
-ghost use Rattle.files.specs.Reading.{tested};
+ghost use Rattle.files.specs.Reading.{tested, pathAnswer, pathsAnswer, requiredAnswer, ruleAnswer, ruleListAnswer};
+
 use crate::number::Number;
 use crate::number::read_number;
 use crate::rules::Rules;
+use crate::sets::with;
+
 
 // One path: its parent, its label, its depth and the place after it.
 enum OnePath {
@@ -123,4 +126,200 @@ fn repeats(parent: &[u8; 64], label: &[u32; 64], own: usize, p: u32, l: u32) -> 
         x += 1;
     }
     false
+}
+
+// The test of a parent: 4, 5, or 0 where it passes.
+fn parent_test(depth: &[u8; 64], own: usize, p: u32) -> u8
+    requires { ⌜ own ≤ 64 ⌝ }
+    ensures { λ r. ⌜ r ≡ parentTest (now (depth .entry)) own p ⌝ }
+{
+    let x = wide_number(p);
+    if x < own {
+        if wide(depth[x]) < 8 {
+            return 0;
+        }
+        return 5;
+    }
+    4
+}
+
+// The label of path `own`, whose parent `p` passed its test, and the path.
+fn read_label(
+    s: &[u8],
+    at: usize,
+    own: usize,
+    p: u32,
+    parent: &[u8; 64],
+    label: &[u32; 64],
+    depth: &[u8; 64],
+) -> OnePath
+    requires { ⌜ (1 ≤ own) × (own ≤ 64) × (p < own) × (getD (now depth) p 0 < 8) ⌝ }
+    ensures { λ r. ⌜ r ≡ pathAnswer (now (depth .entry)) (run (pathLabel (pathsFrom (now (parent .entry)) (now (label .entry)) 1 (own - 1)) p) at (drop at (now (s .entry)))) ⌝ }
+{
+    match read_number(s, at) {
+        Number::Refused(why) => OnePath::Refused(why, at),
+        Number::Is(l, size) => {
+            if repeats(parent, label, own, p, l) {
+                return OnePath::Refused(6, at);
+            }
+            let x = wide_number(p);
+            OnePath::Is((p % 256) as u8, l, depth[x] + 1, at + size)
+        }
+    }
+}
+
+// Path `own`, after those in the arrays.
+fn read_path(
+    s: &[u8],
+    at: usize,
+    own: usize,
+    parent: &[u8; 64],
+    label: &[u32; 64],
+    depth: &[u8; 64],
+) -> OnePath
+    requires { ⌜ (1 ≤ own) × (own ≤ 64) × (now depth ≡ padded 64 (depths (pathsFrom (now parent) (now label) 1 (own - 1)))) ⌝ }
+    ensures { λ r. ⌜ r ≡ pathAnswer (now (depth .entry)) (run (onePath (pathsFrom (now (parent .entry)) (now (label .entry)) 1 (own - 1))) at (drop at (now (s .entry)))) ⌝ }
+{
+    match read_number(s, at) {
+        Number::Refused(why) => OnePath::Refused(why, at),
+        Number::Is(p, size) => {
+            let why = parent_test(depth, own, p);
+            if 0 < why {
+                return OnePath::Refused(why, at);
+            }
+            read_label(s, at + size, own, p, parent, label, depth)
+        }
+    }
+}
+
+// Paths 1 to `count` - 1, after the root with its label.
+fn read_paths(s: &[u8], at: usize, count: usize, root: u32) -> Paths
+    requires { ⌜ (1 ≤ count) × (count ≤ 64) ⌝ }
+    ensures { λ r. ⌜ r ≡ pathsAnswer root (run (morePaths (count - 1) []) at (drop at (now (s .entry)))) ⌝ }
+{
+    let mut parent = [0u8; 64];
+    let mut label = [0u32; 64];
+    let mut depth = [0u8; 64];
+    label[0] = root;
+    depth[0] = 1;
+    let mut next = at;
+    let mut x = 1usize;
+    while x < count {
+        match read_path(s, next, x, &parent, &label, &depth) {
+            OnePath::Refused(why, place) => {
+                return Paths {
+                    end: Section::Refused(why, place),
+                    parent: [0u8; 64],
+                    label: [0u32; 64],
+                };
+            }
+            OnePath::Is(p, l, d, after) => {
+                parent[x] = p;
+                label[x] = l;
+                depth[x] = d;
+                next = after;
+            }
+        }
+        x += 1;
+    }
+    Paths {
+        end: Section::Read(next),
+        parent,
+        label,
+    }
+}
+
+// So many required paths, ascending, each in a table of `count` paths.
+fn read_required(s: &[u8], at: usize, count: u32, many: u32) -> Required
+    requires { ⌜ count ≤ 64 ⌝ }
+    ensures { λ r. ⌜ r ≡ requiredAnswer (run (moreRequired count many 0 []) at (drop at (now (s .entry)))) ⌝ }
+{
+    let mut set = 0u64;
+    let mut last = 0u32;
+    let mut next = at;
+    let mut left = many;
+    while 0 < left {
+        match read_between(s, next, last + 1, count, 7) {
+            Number::Refused(why) => {
+                return Required::Refused(why, next);
+            }
+            Number::Is(x, size) => {
+                set = with(set, wide_number(x));
+                last = x;
+                next += size;
+                left -= 1;
+            }
+        }
+    }
+    Required::Is(set, next)
+}
+
+// The right path of a rule, and the rule.
+fn read_right(s: &[u8], at: usize, count: u32, kind: u8, left: u8) -> OneRule
+    requires { ⌜ count ≤ 64 ⌝ }
+    ensures { λ r. ⌜ r ≡ ruleAnswer (run (ruleRight count kind left) at (drop at (now (s .entry)))) ⌝ }
+{
+    match read_between(s, at, 0, count, 10) {
+        Number::Refused(why) => OneRule::Refused(why, at),
+        Number::Is(x, size) => OneRule::Is(kind, left, (x % 256) as u8, at + size),
+    }
+}
+
+// The left path of a rule, and on.
+fn read_left(s: &[u8], at: usize, count: u32, kind: u8) -> OneRule
+    requires { ⌜ count ≤ 64 ⌝ }
+    ensures { λ r. ⌜ r ≡ ruleAnswer (run (ruleLeft count kind) at (drop at (now (s .entry)))) ⌝ }
+{
+    match read_between(s, at, 0, count, 10) {
+        Number::Refused(why) => OneRule::Refused(why, at),
+        Number::Is(x, size) => read_right(s, at + size, count, kind, (x % 256) as u8),
+    }
+}
+
+// One rule.
+fn read_rule(s: &[u8], at: usize, count: u32) -> OneRule
+    requires { ⌜ count ≤ 64 ⌝ }
+    ensures { λ r. ⌜ r ≡ ruleAnswer (run (oneRule count) at (drop at (now (s .entry)))) ⌝ }
+{
+    match read_between(s, at, 1, 4, 9) {
+        Number::Refused(why) => OneRule::Refused(why, at),
+        Number::Is(x, size) => read_left(s, at + size, count, (x % 256) as u8),
+    }
+}
+
+// So many rules.
+fn read_rule_list(s: &[u8], at: usize, count: u32, many: usize) -> RuleList
+    requires { ⌜ (count ≤ 64) × (many ≤ 256) ⌝ }
+    ensures { λ r. ⌜ r ≡ ruleListAnswer (run (moreRules count many []) at (drop at (now (s .entry)))) ⌝ }
+{
+    let mut kind = [0u8; 256];
+    let mut left = [0u8; 256];
+    let mut right = [0u8; 256];
+    let mut next = at;
+    let mut i = 0usize;
+    while i < many {
+        match read_rule(s, next, count) {
+            OneRule::Refused(why, place) => {
+                return RuleList {
+                    end: Section::Refused(why, place),
+                    kind: [0u8; 256],
+                    left: [0u8; 256],
+                    right: [0u8; 256],
+                };
+            }
+            OneRule::Is(k, l, r, after) => {
+                kind[i] = k;
+                left[i] = l;
+                right[i] = r;
+                next = after;
+            }
+        }
+        i += 1;
+    }
+    RuleList {
+        end: Section::Read(next),
+        kind,
+        left,
+        right,
+    }
 }
