@@ -3,6 +3,7 @@ pub mod Collect
 pub mod Formats
 pub mod Numbers
 pub mod Padded
+pub mod Passes
 pub mod Reader
 pub mod ReaderPaths
 pub mod ReaderRules

@@ -11,7 +11,7 @@ pub enum Number {
     Refused(u8),
 }
 
-pub(crate) fn wide(b: u8) -> u32
+fn wide(b: u8) -> u32
     ensures { λ r. ⌜ (r ≡ b) × (r < 256) ⌝ }
 {
     b as u32

@@ -11,7 +11,7 @@ ghost use Rattle.files.specs.Sets.{members};
 ghost use Rattle.files.specs.Writing.{put, wrapped, Puts, writeAnswer};
 use crate::number::put_number;
 use crate::number::size_of;
-use crate::number::wide;
+use crate::read::wide32;
 use crate::rules::Rules;
 use crate::sets;
 
@@ -69,7 +69,7 @@ fn collect_paths(parent: &[u8; 64], label: &[u32; 64], count: usize, numbers: &m
     let mut at = 2usize;
     let mut x = 1usize;
     while x < count {
-        numbers[at] = wide(parent[x]);
+        numbers[at] = wide32(parent[x]);
         numbers[at + 1] = label[x];
         at += 2;
         x += 1;
@@ -102,9 +102,9 @@ fn collect_rules(kind: &[u8; 256], left: &[u8; 256], right: &[u8; 256], count: u
     let mut at = start + 1;
     let mut x = 0usize;
     while x < count {
-        numbers[at] = wide(kind[x]);
-        numbers[at + 1] = wide(left[x]);
-        numbers[at + 2] = wide(right[x]);
+        numbers[at] = wide32(kind[x]);
+        numbers[at + 1] = wide32(left[x]);
+        numbers[at + 2] = wide32(right[x]);
         at += 3;
         x += 1;
     }

@@ -2,7 +2,7 @@ use Rattle.files.proofs.write.collect_paths.Statement.{statement}
 use Rattle.files.proofs.write.collect_paths.Tie as tie
 use Rattle.files.proofs.write.collect_paths.Reads as reads
 use Rattle.files.proofs.write.collect_paths.Lts as lts
-use Rattle.files.proofs.number.wide.Reads as wide-reads
+use Rattle.files.proofs.read.wide32.Reads as wide32-reads
 use borrow.Author.Needs.{needs}
 use Prim.Native.Nat.{_*_, _-_, _≤_}
 use mathlib.Core.Path.{_≡_}
@@ -32,11 +32,11 @@ element-write-numbers-2 c = search (needs, paths-laws)
 loop-holds : tie.Need-loop-holds Inv-loop μ-loop
 loop-holds c = search (needs, paths-laws)
 
-element-copy-out-wide : tie.Need-element-copy-out-wide Inv-loop μ-loop
-element-copy-out-wide c = search (needs, paths-laws)
+element-copy-out-wide32 : tie.Need-element-copy-out-wide32 Inv-loop μ-loop
+element-copy-out-wide32 c = search (needs, paths-laws)
 
-wide-requires : tie.Need-wide-requires Inv-loop μ-loop
-wide-requires c κs = search (needs, paths-laws)
+wide32-requires : tie.Need-wide32-requires Inv-loop μ-loop
+wide32-requires c κs = search (needs, paths-laws)
 
 mul-numbers : tie.Need-mul-numbers Inv-loop μ-loop
 mul-numbers c = search (needs, paths-laws)
@@ -85,8 +85,8 @@ collect-paths-spec =
     element-copy-out-numbers
     element-write-numbers-2
     loop-holds
-    element-copy-out-wide
-    wide-requires
+    element-copy-out-wide32
+    wide32-requires
     mul-numbers
     element-write-numbers-3
     mul-numbers-2

@@ -2,7 +2,7 @@ use Rattle.files.proofs.write.collect_rules.Statement.{statement}
 use Rattle.files.proofs.write.collect_rules.Tie as tie
 use Rattle.files.proofs.write.collect_rules.Reads as reads
 use Rattle.files.proofs.write.collect_rules.Lts as lts
-use Rattle.files.proofs.number.wide.Reads as wide-reads
+use Rattle.files.proofs.read.wide32.Reads as wide32-reads
 use borrow.Author.Needs.{needs}
 use Prim.Native.Nat.{_+_, _*_, _-_, _≤_}
 use mathlib.Core.Path.{_≡_}
@@ -32,11 +32,11 @@ add-at c = search (needs, rules-laws)
 loop-holds : tie.Need-loop-holds Inv-loop μ-loop
 loop-holds c = search (needs, rules-laws)
 
-element-copy-out-wide : tie.Need-element-copy-out-wide Inv-loop μ-loop
-element-copy-out-wide c = search (needs, rules-laws)
+element-copy-out-wide32 : tie.Need-element-copy-out-wide32 Inv-loop μ-loop
+element-copy-out-wide32 c = search (needs, rules-laws)
 
-wide-requires : tie.Need-wide-requires Inv-loop μ-loop
-wide-requires c κs = search (needs, rules-laws)
+wide32-requires : tie.Need-wide32-requires Inv-loop μ-loop
+wide32-requires c κs = search (needs, rules-laws)
 
 mul-numbers-2 : tie.Need-mul-numbers-2 Inv-loop μ-loop
 mul-numbers-2 c = search (needs, rules-laws)
@@ -44,11 +44,11 @@ mul-numbers-2 c = search (needs, rules-laws)
 element-write-numbers-2 : tie.Need-element-write-numbers-2 Inv-loop μ-loop
 element-write-numbers-2 c = search (needs, rules-laws)
 
-element-copy-out-wide-2 : tie.Need-element-copy-out-wide-2 Inv-loop μ-loop
-element-copy-out-wide-2 c = search (needs, rules-laws)
+element-copy-out-wide32-2 : tie.Need-element-copy-out-wide32-2 Inv-loop μ-loop
+element-copy-out-wide32-2 c = search (needs, rules-laws)
 
-wide-requires-2 : tie.Need-wide-requires-2 Inv-loop μ-loop
-wide-requires-2 c κs = search (needs, rules-laws)
+wide32-requires-2 : tie.Need-wide32-requires-2 Inv-loop μ-loop
+wide32-requires-2 c κs = search (needs, rules-laws)
 
 add-numbers : tie.Need-add-numbers Inv-loop μ-loop
 add-numbers c = search (needs, rules-laws)
@@ -59,11 +59,11 @@ mul-numbers-3 c = search (needs, rules-laws)
 element-write-numbers-3 : tie.Need-element-write-numbers-3 Inv-loop μ-loop
 element-write-numbers-3 c = search (needs, rules-laws)
 
-element-copy-out-wide-3 : tie.Need-element-copy-out-wide-3 Inv-loop μ-loop
-element-copy-out-wide-3 c = search (needs, rules-laws)
+element-copy-out-wide32-3 : tie.Need-element-copy-out-wide32-3 Inv-loop μ-loop
+element-copy-out-wide32-3 c = search (needs, rules-laws)
 
-wide-requires-3 : tie.Need-wide-requires-3 Inv-loop μ-loop
-wide-requires-3 c κs = search (needs, rules-laws)
+wide32-requires-3 : tie.Need-wide32-requires-3 Inv-loop μ-loop
+wide32-requires-3 c κs = search (needs, rules-laws)
 
 add-numbers-2 : tie.Need-add-numbers-2 Inv-loop μ-loop
 add-numbers-2 c = search (needs, rules-laws)
@@ -100,17 +100,17 @@ collect-rules-spec =
     element-write-numbers
     add-at
     loop-holds
-    element-copy-out-wide
-    wide-requires
+    element-copy-out-wide32
+    wide32-requires
     mul-numbers-2
     element-write-numbers-2
-    element-copy-out-wide-2
-    wide-requires-2
+    element-copy-out-wide32-2
+    wide32-requires-2
     add-numbers
     mul-numbers-3
     element-write-numbers-3
-    element-copy-out-wide-3
-    wide-requires-3
+    element-copy-out-wide32-3
+    wide32-requires-3
     add-numbers-2
     mul-numbers-4
     element-write-numbers-4
