@@ -14,6 +14,7 @@ use crate::number::size_of;
 use crate::read::wide32;
 use crate::rules::Rules;
 use crate::sets;
+use crate::valid::valid_table;
 
 // How many bytes were written, or the refusal's number and place.
 pub enum Written {
@@ -109,4 +110,31 @@ fn collect_rules(kind: &[u8; 256], left: &[u8; 256], right: &[u8; 256], count: u
         x += 1;
     }
     at
+}
+
+// The numbers of the rule file stored at the start; how many they are.
+fn collect(rules: Rules, numbers: &mut [u32; 1024]) -> usize
+    requires { ⌜ (1 ≤ rules .paths) × (rules .paths ≤ 64) × (rules .rules ≤ 256) ⌝ }
+    ensures { λ r. ⌜ (r ≡ length (numbersOf (rulesOf rules))) × (r ≤ 1024) × (now (numbers .exit) ≡ sets (now (numbers .entry)) 0 (numbersOf (rulesOf rules))) ⌝ }
+{
+    let parent = rules.parent;
+    let label = rules.label;
+    let after = collect_paths(&parent, &label, rules.paths, numbers);
+    let next = collect_required(rules.required, after, numbers);
+    let kind = rules.kind;
+    let left = rules.left;
+    let right = rules.right;
+    collect_rules(&kind, &left, &right, rules.rules, next, numbers)
+}
+
+// The rule file of a table put into `out`: refusal 12 for a table that is not valid, then 20.
+pub fn write_rules(rules: Rules, out: &mut [u8]) -> Written
+    ensures { λ r. ⌜ Puts (writeAnswer rules (now (out .entry))) r (now (out .exit)) ⌝ }
+{
+    if !valid_table(rules) {
+        return Written::Refused(12, 0);
+    }
+    let mut numbers = [0u32; 1024];
+    let n = collect(rules, &mut numbers);
+    put_numbers(&numbers[..n], out)
 }
