@@ -1,3 +1,7 @@
 pub mod Paths
 pub mod Tree
 pub mod Obey
+pub mod Parts
+pub mod Extent
+pub mod Checking
+pub mod PartList

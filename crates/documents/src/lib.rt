@@ -1,1 +1,2 @@
 // Paths and documents: what obeying means, and checking a document.
+pub mod check;

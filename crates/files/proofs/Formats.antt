@@ -61,6 +61,26 @@ run-then (want test next) g s at = by (numberIn (drop at s)) refl (λ n. run-the
     by (Is n size) e ih = tested n size (test n) e refl ih
     by (Refused k) e ih = rw e
 
+-- a list that is read one by one has as many more as were wanted
+pub list-many : {A : Type 0} (one : List A → Format A) (more : ℕ → List A → Format (List A))
+    → ((l : List A) → more 0 l ≡ done l) → ((k : ℕ) (l : List A) → more (suc k) l ≡ andThen (one l) (λ a. more k (l ++ (a ∷ []))))
+    → (s : List ℕ) (k : ℕ) (l : List A) (at : ℕ) (r : List A) (next : ℕ) → run (more k l) at (drop at s) ≡ got r next → length r ≡ length l + k
+unfolding run onward
+list-many {A} one more base step s zero l at r next e =
+    let f : got l at ≡ got r next = ap (λ (m : Format (List A)). run m at (drop at s)) (sym (base l)) ∙ e in
+    let same : l ≡ r = cc in
+    omega (arith, ap length same)
+list-many {A} one more base step s (suc k) l at r next e =
+    by (run (one l) at (drop at s))
+    (sym (ap (λ (m : Format (List A)). run m at (drop at s)) (step k l) ∙ run-then (one l) (λ a. more k (l ++ (a ∷ []))) s at) ∙ e)
+    (λ a. list-many one more base step s k (l ++ (a ∷ [])))
+  where
+    by : (o : Outcome A) → onward (λ a. more k (l ++ (a ∷ []))) s o ≡ got r next
+      → ((a : A) (at : ℕ) (r : List A) (next : ℕ) → run (more k (l ++ (a ∷ []))) at (drop at s) ≡ got r next → length r ≡ length (l ++ (a ∷ [])) + k)
+      → length r ≡ length l + suc k
+    by (got a at′) f ih = ih a at′ r next f ∙ omega (arith, length-append l (a ∷ []))
+    by (refused j place) f ih = absurd (let z : _≡_ {A = ℕ} 0 1 = cc in omega arith)
+
 -- numbers that lead from one format to another are read off the front of the bytes
 pub run-leads : {A : Type 0} {f g : Format A} {ns : List ℕ} → Leads f ns g → (at : ℕ) (rest : List ℕ)
     → run f at (bytesOfAll ns ++ rest) ≡ run g (at + length (bytesOfAll ns)) rest

@@ -10,11 +10,15 @@ use Rattle.files.specs.declared.read.Paths.{Paths}
 use Rattle.files.specs.declared.read.Required.{Required}
 use Rattle.files.specs.declared.read.OneRule.{OneRule}
 use Rattle.files.specs.declared.read.RuleList.{RuleList}
+use Rattle.files.specs.declared.read.Answer.{Answer}
+use Rattle.files.specs.declared.read.Answer.the-variants.{Accepted}
+use Rattle.files.specs.declared.read.Reading.{Reading}
 use Rattle.files.specs.declared.read.Section.{Section}
-use Rattle.files.specs.Rules.{padded, addAll}
+use Rattle.files.specs.Rules.{padded, addAll, tableOf, noRules}
 use Rattle.files.specs.Number.{limit, numberIn}
-use Rattle.files.specs.Format.{Outcome, got, refused}
-use Rattle.files.specs.Table.{Path, Rule, parents, labels}
+use Rattle.files.specs.Format.{Outcome, got, refused, runAll, RefusedAt}
+use Rattle.files.specs.RuleFile.{ruleFile, fileOf}
+use Rattle.files.specs.Table.{Path, Rule, RuleSet, Valid, parents, labels}
 
 -- a number where its test says 0, else that refusal
 unfoldable pub passed : ℕ → ℕ → ℕ → Number
@@ -56,3 +60,36 @@ ruleListAnswer (got rs next) =
     ; right = padded 256 (map (λ (ru : Rule). ru .right) rs)
     }
 ruleListAnswer (refused k at) = record { end = Section.Refused k at; kind = padded 256 []; left = padded 256 []; right = padded 256 [] }
+
+-- the arrays hold the paths of a table of `count` paths
+pub record PathsIn (count : ℕ) (parent label : List ℕ) (root : ℕ) (ps : List Path) : Type 0 where
+  pub many : 1 + length ps ≡ count
+  pub in-parent : parent ≡ padded 64 (parents ps)
+  pub in-label : label ≡ padded 64 (labels root ps)
+
+-- what reading hands back: the rules of an accepted file; of a refused one its number and place, and the one-path table
+unfoldable pub readingOf : Outcome RuleSet → Reading
+readingOf (got q at) = record { answer = Accepted; rules = tableOf q }
+readingOf (refused k at) = record { answer = Answer.Refused k at; rules = tableOf noRules }
+
+-- what reading a rule file answers
+unfoldable pub readAnswer : List ℕ → Reading
+readAnswer s = readingOf (runAll ruleFile s)
+
+-- the rule set that a file was accepted with
+pub record AcceptedFile (s : List ℕ) (r : Reading) : Type 0 where
+  pub rules : RuleSet
+  pub valid : Valid rules
+  pub file : s ≡ fileOf rules
+  pub table : r .rules ≡ tableOf rules
+
+-- what reading a rule file promises, on all bytes
+pub record ReadRules (s : List ℕ) (r : Reading) : Type 0 where
+  -- the answer
+  pub answer : r ≡ readAnswer s
+  -- accepted exactly if the bytes are the file of a valid rule set, which is handed back
+  pub accepted : r .answer ≡ Accepted → AcceptedFile s r
+  pub accepts : (q : RuleSet) → Valid q → s ≡ fileOf q → r ≡ record { answer = Accepted; rules = tableOf q }
+  -- refused with a number at a place exactly if the numbers before it pass their tests and there reading stops with it
+  pub refused : (k at : ℕ) → r .answer ≡ Answer.Refused k at → RefusedAt ruleFile s k at
+  pub refuses : (k at : ℕ) → RefusedAt ruleFile s k at → r ≡ record { answer = Answer.Refused k at; rules = tableOf noRules }

@@ -1,5 +1,5 @@
 -- The rule file: its numbers in order, and the refusal that each may meet.
-use Prim.Native.Nat.{ℕ, zero, suc, pred, _+_, _*_}
+use Prim.Native.Nat.{ℕ, zero, suc, _+_, _-_, _*_}
 use mathlib.Core.Bool.{Bool, true, false, cond}
 use mathlib.Core.List.{List, [], _∷_, _++_}
 use lib.ListN.{length, getD}
@@ -77,19 +77,26 @@ unfoldable pub moreRules : ℕ → ℕ → List Rule → Format (List Rule)
 moreRules count zero rs = done rs
 moreRules count (suc k) rs = andThen (oneRule count) (λ r. moreRules count k (rs ++ (r ∷ [])))
 
--- rule count and rules, to the end
+-- so many rules, to the end
+unfoldable pub rulesToEnd : ℕ → List Path → List ℕ → ℕ → Format RuleSet
+rulesToEnd root ps req k =
+    andThen (moreRules (1 + length ps) k []) (λ rs. done (record { root = root; paths = ps; required = req; rules = rs }))
+
+-- rule count and rules
 unfoldable pub afterRequired : ℕ → List Path → List ℕ → Format RuleSet
-afterRequired root ps req =
-    want (between 0 257 8)
-    (λ k. andThen (moreRules (1 + length ps) k []) (λ rs. done (record { root = root; paths = ps; required = req; rules = rs })))
+afterRequired root ps req = want (between 0 257 8) (λ k. rulesToEnd root ps req k)
+
+-- so many required numbers, and on
+unfoldable pub requiredOn : ℕ → List Path → ℕ → Format RuleSet
+requiredOn root ps k = andThen (moreRequired (1 + length ps) k 0 []) (λ req. afterRequired root ps req)
 
 -- required count and required numbers, and on
 unfoldable pub afterPaths : ℕ → List Path → Format RuleSet
-afterPaths root ps = want any (λ k. andThen (moreRequired (1 + length ps) k 0 []) (λ req. afterRequired root ps req))
+afterPaths root ps = want any (λ k. requiredOn root ps k)
 
 -- parents and labels, and on
 unfoldable pub afterRoot : ℕ → ℕ → Format RuleSet
-afterRoot count root = andThen (morePaths (pred count) []) (λ ps. afterPaths root ps)
+afterRoot count root = andThen (morePaths (count - 1) []) (λ ps. afterPaths root ps)
 
 -- root label, and on
 unfoldable pub afterCount : ℕ → Format RuleSet

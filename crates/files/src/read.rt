@@ -4,10 +4,11 @@ ghost use mathlib.Core.Path.{_≡_};
 ghost use mathlib.Core.List.{List, [], _∷_};
 ghost use lib.ListN.{length, drop, getD};
 ghost use Rattle.files.specs.Number.{numberIn};
-ghost use Rattle.files.specs.Format.{run, atEnd};
-ghost use Rattle.files.specs.RuleFile.{between, sameChild, repeats, parentTest, pathLabel, onePath, morePaths, depths, moreRequired, ruleRight, ruleLeft, oneRule, moreRules};
-ghost use Rattle.files.specs.Rules.{pathsFrom, padded};
-ghost use Rattle.files.specs.Reading.{tested, pathAnswer, pathsAnswer, requiredAnswer, ruleAnswer, ruleListAnswer};
+ghost use Rattle.files.specs.Format.{run, atEnd, got, refused};
+ghost use Rattle.files.specs.Table.{Path, RuleSet};
+ghost use Rattle.files.specs.RuleFile.{between, sameChild, repeats, parentTest, pathLabel, onePath, morePaths, depths, moreRequired, ruleRight, ruleLeft, oneRule, moreRules, rulesToEnd, afterRequired, requiredOn, afterPaths, afterRoot, afterCount};
+ghost use Rattle.files.specs.Rules.{pathsFrom, padded, addAll, tableOf};
+ghost use Rattle.files.specs.Reading.{tested, pathAnswer, pathsAnswer, requiredAnswer, ruleAnswer, ruleListAnswer, PathsIn, readingOf, ReadRules};
 
 use crate::number::Number;
 use crate::number::read_number;
@@ -321,5 +322,165 @@ fn read_rule_list(s: &[u8], at: usize, count: u32, many: usize) -> RuleList
         kind,
         left,
         right,
+    }
+}
+
+// A refused file: its number and place, and the one-path table.
+fn refuse(why: u8, place: usize) -> Reading
+    ensures { λ r. ⌜ r ≡ readingOf (refused why place) ⌝ }
+{
+    Reading {
+        answer: Answer::Refused(why, place),
+        rules: Rules {
+            paths: 1,
+            parent: [0u8; 64],
+            label: [0u32; 64],
+            required: 0,
+            rules: 0,
+            kind: [0u8; 256],
+            left: [0u8; 256],
+            right: [0u8; 256],
+        },
+    }
+}
+
+// The rules that were read up to `at`, unless bytes are left over.
+fn accept(s: &[u8], at: usize, rules: Rules) -> Reading
+    ensures { λ r. ⌜ ((q : RuleSet) → rules ≡ tableOf q → r ≡ readingOf (atEnd (length (now (s .entry))) (got q at))) ⌝ }
+{
+    if at < s.len() {
+        return refuse(11, at);
+    }
+    Reading {
+        answer: Answer::Accepted,
+        rules,
+    }
+}
+
+// So many rules, to the end of the file.
+fn read_to_end(
+    s: &[u8],
+    at: usize,
+    many: usize,
+    count: u32,
+    parent: [u8; 64],
+    label: [u32; 64],
+    required: u64,
+) -> Reading
+    requires { ⌜ (count ≤ 64) × (many ≤ 256) ⌝ }
+    ensures { λ r. ⌜ ((root : ℕ) (ps : List Path) (req : List ℕ) → PathsIn count parent label root ps → required ≡ addAll 0 req
+        → r ≡ readingOf (atEnd (length (now (s .entry))) (run (rulesToEnd root ps req many) at (drop at (now (s .entry)))))) ⌝ }
+{
+    let list = read_rule_list(s, at, count, many);
+    let end = list.end;
+    match end {
+        Section::Refused(why, place) => refuse(why, place),
+        Section::Read(next) => {
+            let kind = list.kind;
+            let left = list.left;
+            let right = list.right;
+            accept(
+                s,
+                next,
+                Rules {
+                    paths: wide_number(count),
+                    parent,
+                    label,
+                    required,
+                    rules: many,
+                    kind,
+                    left,
+                    right,
+                },
+            )
+        }
+    }
+}
+
+// Rule count and rules.
+fn read_rule_count(
+    s: &[u8],
+    at: usize,
+    count: u32,
+    parent: [u8; 64],
+    label: [u32; 64],
+    required: u64,
+) -> Reading
+    requires { ⌜ count ≤ 64 ⌝ }
+    ensures { λ r. ⌜ ((root : ℕ) (ps : List Path) (req : List ℕ) → PathsIn count parent label root ps → required ≡ addAll 0 req
+        → r ≡ readingOf (atEnd (length (now (s .entry))) (run (afterRequired root ps req) at (drop at (now (s .entry)))))) ⌝ }
+{
+    match read_between(s, at, 0, 257, 8) {
+        Number::Refused(why) => refuse(why, at),
+        Number::Is(many, size) => read_to_end(s, at + size, wide_number(many), count, parent, label, required),
+    }
+}
+
+// So many required paths, and on.
+fn read_required_paths(
+    s: &[u8],
+    at: usize,
+    many: u32,
+    count: u32,
+    parent: [u8; 64],
+    label: [u32; 64],
+) -> Reading
+    requires { ⌜ count ≤ 64 ⌝ }
+    ensures { λ r. ⌜ ((root : ℕ) (ps : List Path) → PathsIn count parent label root ps
+        → r ≡ readingOf (atEnd (length (now (s .entry))) (run (requiredOn root ps many) at (drop at (now (s .entry)))))) ⌝ }
+{
+    match read_required(s, at, count, many) {
+        Required::Refused(why, place) => refuse(why, place),
+        Required::Is(set, next) => read_rule_count(s, next, count, parent, label, set),
+    }
+}
+
+// Required count and required paths, and on.
+fn read_required_count(s: &[u8], at: usize, count: u32, parent: [u8; 64], label: [u32; 64]) -> Reading
+    requires { ⌜ count ≤ 64 ⌝ }
+    ensures { λ r. ⌜ ((root : ℕ) (ps : List Path) → PathsIn count parent label root ps
+        → r ≡ readingOf (atEnd (length (now (s .entry))) (run (afterPaths root ps) at (drop at (now (s .entry)))))) ⌝ }
+{
+    match read_number(s, at) {
+        Number::Refused(why) => refuse(why, at),
+        Number::Is(many, size) => read_required_paths(s, at + size, many, count, parent, label),
+    }
+}
+
+// Parents and labels, and on.
+fn read_table(s: &[u8], at: usize, count: u32, root: u32) -> Reading
+    requires { ⌜ (1 ≤ count) × (count ≤ 64) ⌝ }
+    ensures { λ r. ⌜ r ≡ readingOf (atEnd (length (now (s .entry))) (run (afterRoot count root) at (drop at (now (s .entry))))) ⌝ }
+{
+    let paths = read_paths(s, at, wide_number(count), root);
+    let end = paths.end;
+    match end {
+        Section::Refused(why, place) => refuse(why, place),
+        Section::Read(next) => {
+            let parent = paths.parent;
+            let label = paths.label;
+            read_required_count(s, next, count, parent, label)
+        }
+    }
+}
+
+// Root label, and on.
+fn read_root(s: &[u8], at: usize, count: u32) -> Reading
+    requires { ⌜ (1 ≤ count) × (count ≤ 64) ⌝ }
+    ensures { λ r. ⌜ r ≡ readingOf (atEnd (length (now (s .entry))) (run (afterCount count) at (drop at (now (s .entry))))) ⌝ }
+{
+    match read_number(s, at) {
+        Number::Refused(why) => refuse(why, at),
+        Number::Is(root, size) => read_table(s, at + size, count, root),
+    }
+}
+
+// A rule file.
+pub fn read_rules(bytes: &[u8]) -> Reading
+    ensures { λ r. ⌜ ReadRules (now (bytes .entry)) r ⌝ }
+{
+    match read_between(bytes, 0, 1, 65, 3) {
+        Number::Refused(why) => refuse(why, 0),
+        Number::Is(count, size) => read_root(bytes, size, count),
     }
 }

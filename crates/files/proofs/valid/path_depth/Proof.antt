@@ -7,7 +7,7 @@ use Rattle.files.proofs.read.parent_test.Reads as parent-test-reads
 use Rattle.files.proofs.read.repeats.Reads as repeats-reads
 use Rattle.files.proofs.read.wide32.Reads as wide32-reads
 use Rattle.files.proofs.read.wide_number.Reads as wide-number-reads
-use Rattle.files.proofs.Passes.{depth-laws}
+use Rattle.files.proofs.Tester.{depth-laws}
 
 element-copy-out-wide32 : tie.Need-element-copy-out-wide32
 element-copy-out-wide32 c = search needs

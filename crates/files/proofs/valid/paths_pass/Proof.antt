@@ -10,7 +10,7 @@ use mathlib.Core.List.{[]}
 use Rattle.files.specs.RuleFile.{depths}
 use Rattle.files.specs.Rules.{pathsFrom, padded}
 use Rattle.files.specs.Writing.{pathsPass}
-use Rattle.files.proofs.Passes.{pass-laws}
+use Rattle.files.proofs.Tester.{pass-laws}
 
 abbrev Inv-loop : tie.InvT-loop
 Inv-loop parent label count depth₀ own₀ depth own = (1 ≤ own) × (own ≤ count) × (depth ≡ padded 64 (depths (pathsFrom parent label 1 (own - 1)))) × (pathsPass (pathsFrom parent label 1 (own - 1)) (pathsFrom parent label own (count - own)) ≡ pathsPass [] (pathsFrom parent label 1 (count - 1)))

@@ -4,7 +4,7 @@ use Rattle.files.proofs.valid.paths_valid.Tie as tie
 use Rattle.files.proofs.valid.paths_valid.Reads as reads
 use Rattle.files.proofs.valid.paths_valid.Lts as lts
 use Rattle.files.proofs.valid.paths_pass.Reads as paths-pass-reads
-use Rattle.files.proofs.Passes.{paths-valid-laws}
+use Rattle.files.proofs.Tester.{paths-valid-laws}
 
 returns : tie.Need-returns
 returns c = search (needs, paths-valid-laws)

@@ -6,7 +6,7 @@ use Rattle.files.proofs.valid.required_pass.Lts as lts
 use Rattle.files.proofs.sets.below.Reads as below-reads
 use Rattle.files.proofs.sets.common.Reads as common-reads
 use Rattle.files.proofs.sets.difference.Reads as difference-reads
-use Rattle.files.proofs.Passes.{required-laws}
+use Rattle.files.proofs.Tester.{required-laws}
 
 common-requires : tie.Need-common-requires
 common-requires c κs = search needs

@@ -4,7 +4,7 @@ use Rattle.files.proofs.valid.rule_passes.Tie as tie
 use Rattle.files.proofs.valid.rule_passes.Reads as reads
 use Rattle.files.proofs.valid.rule_passes.Lts as lts
 use Rattle.files.proofs.read.wide.Reads as wide-reads
-use Rattle.files.proofs.Passes.{rule-laws}
+use Rattle.files.proofs.Tester.{rule-laws}
 
 element-copy-out-k : tie.Need-element-copy-out-k
 element-copy-out-k c = search needs

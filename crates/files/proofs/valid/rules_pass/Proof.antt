@@ -8,7 +8,7 @@ use Prim.Native.Nat.{_-_, _≤_}
 use mathlib.Core.Path.{_≡_}
 use Rattle.files.specs.Rules.{rulesFrom}
 use Rattle.files.specs.Writing.{rulesPass}
-use Rattle.files.proofs.Passes.{all-laws}
+use Rattle.files.proofs.Tester.{all-laws}
 
 abbrev Inv-loop : tie.InvT-loop
 Inv-loop kind left right many count x₀ x = (x ≤ many) × (rulesPass count (rulesFrom kind left right x (many - x)) ≡ rulesPass count (rulesFrom kind left right 0 many))

@@ -4,7 +4,7 @@ use Rattle.files.proofs.valid.rules_valid.Tie as tie
 use Rattle.files.proofs.valid.rules_valid.Reads as reads
 use Rattle.files.proofs.valid.rules_valid.Lts as lts
 use Rattle.files.proofs.valid.rules_pass.Reads as rules-pass-reads
-use Rattle.files.proofs.Passes.{rules-valid-laws}
+use Rattle.files.proofs.Tester.{rules-valid-laws}
 
 returns : tie.Need-returns
 returns c = search (needs, rules-valid-laws)

@@ -6,7 +6,7 @@ use Rattle.files.proofs.valid.valid_table.Lts as lts
 use Rattle.files.proofs.valid.paths_valid.Reads as paths-valid-reads
 use Rattle.files.proofs.valid.required_pass.Reads as required-pass-reads
 use Rattle.files.proofs.valid.rules_valid.Reads as rules-valid-reads
-use Rattle.files.proofs.Passes.{table-laws}
+use Rattle.files.proofs.Tester.{table-laws}
 
 paths-valid-requires : tie.Need-paths-valid-requires
 paths-valid-requires c κs = search needs

@@ -6,22 +6,19 @@ use Rattle.files.proofs.write.collect.Lts as lts
 use Rattle.files.proofs.write.collect_paths.Reads as collect-paths-reads
 use Rattle.files.proofs.write.collect_required.Reads as collect-required-reads
 use Rattle.files.proofs.write.collect_rules.Reads as collect-rules-reads
+use Rattle.files.proofs.Writer.{collect-laws}
 
--- src/write.rt:122:9
 collect-paths-requires : tie.Need-collect-paths-requires
 collect-paths-requires c κs = search needs
 
--- src/write.rt:123:9
 collect-required-requires : tie.Need-collect-required-requires
 collect-required-requires c κs = search needs
 
--- src/write.rt:127:5
 collect-rules-requires : tie.Need-collect-rules-requires
 collect-rules-requires c κs = search needs
 
--- src/write.rt:116:1
 returns : tie.Need-returns
-returns c = ?
+returns c = search (needs, collect-laws)
 
 pub collect-spec : {M : Type 1} → statement M
 collect-spec =

@@ -6,38 +6,31 @@ use Rattle.files.proofs.write.write_rules.Lts as lts
 use Rattle.files.proofs.valid.valid_table.Reads as valid-table-reads
 use Rattle.files.proofs.write.collect.Reads as collect-reads
 use Rattle.files.proofs.write.put_numbers.Reads as put-numbers-reads
+use Rattle.files.proofs.Writer.{write-laws}
 
--- src/write.rt:134:9
 valid-table-requires : tie.Need-valid-table-requires
 valid-table-requires c κs = search needs
 
--- src/write.rt:135:9
 returns : tie.Need-returns
-returns c = ?
+returns c = search (needs, write-laws)
 
--- src/write.rt:138:9
 collect-requires : tie.Need-collect-requires
-collect-requires c κs = ?
+collect-requires c κs = search (needs, write-laws)
 
--- src/write.rt:139:17
 array-share-prefix-numbers : tie.Need-array-share-prefix-numbers
-array-share-prefix-numbers c = ?
+array-share-prefix-numbers c = search (needs, write-laws)
 
--- src/write.rt:139:17
 slice-aggregate-put-numbers : tie.Need-slice-aggregate-put-numbers
-slice-aggregate-put-numbers c = ?
+slice-aggregate-put-numbers c = search (needs, write-laws)
 
--- src/write.rt:139:5
 put-numbers-requires : tie.Need-put-numbers-requires
 put-numbers-requires c κs = search needs
 
--- src/write.rt:131:1
 same-length : tie.Need-same-length
 same-length c = search needs
 
--- src/write.rt:131:1
 returns-2 : tie.Need-returns-2
-returns-2 c = ?
+returns-2 c = search (needs, write-laws)
 
 pub write-rules-spec : {M : Type 1} → statement M
 write-rules-spec =

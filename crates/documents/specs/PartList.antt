@@ -1,0 +1,71 @@
+-- A document as a list of parts: its numbers in order, the refusal that each may meet, and the tree that the list stands for.
+use Prim.Native.Nat.{ℕ, zero, suc, _+_, _^_}
+use mathlib.Core.Path.{_≡_}
+use mathlib.Core.Bool.{Bool, true, false, cond}
+use mathlib.Core.List.{List, [], _∷_, _++_, map}
+use lib.ListN.{length, getD}
+use lib.Dec.{ltb, leb, eqb}
+use Rattle.files.specs.Format.{Format, done, want, andThen}
+use Rattle.files.specs.RuleFile.{between, any}
+use Rattle.files.specs.Rules.{addAll}
+use Rattle.documents.specs.Tree.{Forest}
+use Rattle.documents.specs.Parts.{Unfolds}
+
+-- a part as it is laid down: its path and the parts that it names
+pub record Entry : Type 0 where
+  pub path : ℕ
+  pub kids : List ℕ
+
+-- whether a number is in a list
+unfoldable pub listed : ℕ → List ℕ → Bool
+listed n [] = false
+listed n (x ∷ xs) = cond (eqb x n) true (listed n xs)
+
+-- the paths of the parts that name part n
+unfoldable pub namers : ℕ → List Entry → List ℕ
+namers n [] = []
+namers n (e ∷ es) = cond (listed n (e .kids)) (e .path ∷ namers n es) (namers n es)
+
+-- the test of the path p of a part after 0, with the set of its namers' paths: 17 where no earlier part names it, 18 where
+-- it is on path 0 or some namer is not on its path's parent
+unfoldable pub namedTest : (parent : ℕ → ℕ) (set p : ℕ) → ℕ
+namedTest parent set p = cond (eqb set 0) 17 (cond (eqb p 0) 18 (cond (eqb set (2 ^ parent p)) 0 18))
+
+-- the test of a part's path, after the parts es, in a table of `count` paths: 16 first
+unfoldable pub pathTest : (parent : ℕ → ℕ) (count : ℕ) → List Entry → ℕ → ℕ
+pathTest parent count [] p = cond (eqb p 0) 0 16
+pathTest parent count (e ∷ es) p =
+    cond (ltb p count) (namedTest parent (addAll 0 (namers (length (e ∷ es)) (e ∷ es))) p) 16
+
+-- so many children more, above `last` and below the part count
+unfoldable pub moreKids : ℕ → ℕ → ℕ → List ℕ → Format (List ℕ)
+moreKids size zero last ks = done ks
+moreKids size (suc k) last ks = want (between (last + 1) size 19) (λ x. moreKids size k x (ks ++ (x ∷ [])))
+
+-- the children of part number n, which is on path p: their count first
+unfoldable pub kidsOn : ℕ → ℕ → ℕ → Format Entry
+kidsOn size n p = want any (λ k. andThen (moreKids size k n []) (λ ks. done (record { path = p; kids = ks })))
+
+-- one part, after the parts es
+unfoldable pub onePart : (parent : ℕ → ℕ) (count size : ℕ) → List Entry → Format Entry
+onePart parent count size es = want (pathTest parent count es) (λ p. kidsOn size (length es) p)
+
+-- so many parts more
+unfoldable pub moreParts : (parent : ℕ → ℕ) (count size : ℕ) → ℕ → List Entry → Format (List Entry)
+moreParts parent count size zero es = done es
+moreParts parent count size (suc k) es = andThen (onePart parent count size es) (λ e. moreParts parent count size k (es ++ (e ∷ [])))
+
+-- a document of a table of `count` paths: the part count first, 1 to 512
+unfoldable pub documentFile : (parent : ℕ → ℕ) (count : ℕ) → Format (List Entry)
+documentFile parent count = want (between 1 513 15) (λ size. moreParts parent count size size [])
+
+-- the path of a part, by its number, and the parts that it names
+unfoldable pub entryPath : List Entry → ℕ → ℕ
+entryPath es n = getD (map (λ (e : Entry). e .path) es) n 0
+
+unfoldable pub entryKids : List Entry → ℕ → List ℕ
+entryKids es n = getD (map (λ (e : Entry). e .kids) es) n []
+
+-- the list stands for the tree in which each naming of a part gets a copy of its own, from part 0 on
+pub record StandsFor (es : List Entry) (d : Forest) : Type 0 where
+  pub unfolds : Unfolds (entryPath es) (entryKids es) (0 ∷ []) d

@@ -1,0 +1,9 @@
+-- The laws of walks, of reachable sets, of the decisions, of evidence and of the documents handed back.
+pub mod Walks
+pub mod Written
+pub mod Soundness
+pub mod Fill
+pub mod Kids
+pub mod Completeness
+pub mod HandedBack
+pub mod Equivalences
