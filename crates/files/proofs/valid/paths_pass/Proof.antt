@@ -1,8 +1,6 @@
+-- `files::valid::paths_pass` meets its contract: the depths are those of the paths so far, and what remains decides.
 use Rattle.files.proofs.valid.paths_pass.Statement.{statement}
 use Rattle.files.proofs.valid.paths_pass.Tie as tie
-use Rattle.files.proofs.valid.paths_pass.Reads as reads
-use Rattle.files.proofs.valid.paths_pass.Lts as lts
-use Rattle.files.proofs.valid.path_depth.Reads as path-depth-reads
 use borrow.Author.Needs.{needs}
 use Prim.Native.Nat.{_-_, _≤_}
 use mathlib.Core.Path.{_≡_}

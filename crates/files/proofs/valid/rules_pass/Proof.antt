@@ -1,8 +1,6 @@
+-- `files::valid::rules_pass` meets its contract: what remains decides.
 use Rattle.files.proofs.valid.rules_pass.Statement.{statement}
 use Rattle.files.proofs.valid.rules_pass.Tie as tie
-use Rattle.files.proofs.valid.rules_pass.Reads as reads
-use Rattle.files.proofs.valid.rules_pass.Lts as lts
-use Rattle.files.proofs.valid.rule_passes.Reads as rule-passes-reads
 use borrow.Author.Needs.{needs}
 use Prim.Native.Nat.{_-_, _≤_}
 use mathlib.Core.Path.{_≡_}

@@ -1,8 +1,6 @@
+-- `files::write::collect_paths` meets its contract: what is stored and what remains is the whole.
 use Rattle.files.proofs.write.collect_paths.Statement.{statement}
 use Rattle.files.proofs.write.collect_paths.Tie as tie
-use Rattle.files.proofs.write.collect_paths.Reads as reads
-use Rattle.files.proofs.write.collect_paths.Lts as lts
-use Rattle.files.proofs.read.wide32.Reads as wide32-reads
 use borrow.Author.Needs.{needs}
 use Prim.Native.Nat.{_*_, _-_, _≤_}
 use mathlib.Core.Path.{_≡_}

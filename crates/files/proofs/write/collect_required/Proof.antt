@@ -1,10 +1,6 @@
+-- `files::write::collect_required` meets its contract: the least member is stored, and the others remain.
 use Rattle.files.proofs.write.collect_required.Statement.{statement}
 use Rattle.files.proofs.write.collect_required.Tie as tie
-use Rattle.files.proofs.write.collect_required.Reads as reads
-use Rattle.files.proofs.write.collect_required.Lts as lts
-use Rattle.files.proofs.sets.lowest.Reads as lowest-reads
-use Rattle.files.proofs.sets.size.Reads as size-reads
-use Rattle.files.proofs.sets.without_lowest.Reads as without-lowest-reads
 use borrow.Author.Needs.{needs}
 use Prim.Native.Nat.{_+_, _^_, _≤_, _<_}
 use mathlib.Core.Path.{_≡_}

@@ -1,8 +1,6 @@
+-- `files::write::collect_rules` meets its contract: what is stored and what remains is the whole.
 use Rattle.files.proofs.write.collect_rules.Statement.{statement}
 use Rattle.files.proofs.write.collect_rules.Tie as tie
-use Rattle.files.proofs.write.collect_rules.Reads as reads
-use Rattle.files.proofs.write.collect_rules.Lts as lts
-use Rattle.files.proofs.read.wide32.Reads as wide32-reads
 use borrow.Author.Needs.{needs}
 use Prim.Native.Nat.{_+_, _*_, _-_, _≤_}
 use mathlib.Core.Path.{_≡_}

@@ -1,8 +1,6 @@
+-- `files::write::size_of_all` meets its contract: what is counted and what remains is the whole.
 use Rattle.files.proofs.write.size_of_all.Statement.{statement}
 use Rattle.files.proofs.write.size_of_all.Tie as tie
-use Rattle.files.proofs.write.size_of_all.Reads as reads
-use Rattle.files.proofs.write.size_of_all.Lts as lts
-use Rattle.files.proofs.number.size_of.Reads as size-of-reads
 use borrow.Author.Needs.{needs}
 use Prim.Native.Nat.{_+_, _*_, _-_, _≤_}
 use mathlib.Core.Path.{_≡_}

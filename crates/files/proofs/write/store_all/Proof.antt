@@ -1,8 +1,6 @@
+-- `files::write::store_all` meets its contract: what is stored and what remains is the whole.
 use Rattle.files.proofs.write.store_all.Statement.{statement}
 use Rattle.files.proofs.write.store_all.Tie as tie
-use Rattle.files.proofs.write.store_all.Reads as reads
-use Rattle.files.proofs.write.store_all.Lts as lts
-use Rattle.files.proofs.number.put_number.Reads as put-number-reads
 use borrow.Author.Needs.{needs}
 use Prim.Native.Nat.{_+_, _-_, _≤_}
 use mathlib.Core.Path.{_≡_}

@@ -1,11 +1,7 @@
+-- `files::write::write_rules` meets its contract: a table that passes has a file, and its numbers are collected.
 use borrow.Author.Needs.{needs}
 use Rattle.files.proofs.write.write_rules.Statement.{statement}
 use Rattle.files.proofs.write.write_rules.Tie as tie
-use Rattle.files.proofs.write.write_rules.Reads as reads
-use Rattle.files.proofs.write.write_rules.Lts as lts
-use Rattle.files.proofs.valid.valid_table.Reads as valid-table-reads
-use Rattle.files.proofs.write.collect.Reads as collect-reads
-use Rattle.files.proofs.write.put_numbers.Reads as put-numbers-reads
 use Rattle.files.proofs.Writer.{write-laws}
 
 valid-table-requires : tie.Need-valid-table-requires
