@@ -67,19 +67,19 @@ pub struct Reading {
     pub rules: Rules,
 }
 
-fn wide(b: u8) -> usize
+pub(crate) fn wide(b: u8) -> usize
     ensures { λ r. ⌜ (r ≡ b) × (r < 256) ⌝ }
 {
     b as usize
 }
 
-fn wide32(b: u8) -> u32
+pub(crate) fn wide32(b: u8) -> u32
     ensures { λ r. ⌜ (r ≡ b) × (r < 256) ⌝ }
 {
     b as u32
 }
 
-fn wide_number(n: u32) -> usize
+pub(crate) fn wide_number(n: u32) -> usize
     ensures { λ r. ⌜ r ≡ n ⌝ }
 {
     n as usize
@@ -115,7 +115,7 @@ fn same_child(parent: u32, label: u32, p: u32, l: u32) -> bool
 }
 
 // Whether parent and label are those of a path from 1 to `own` - 1.
-fn repeats(parent: &[u8; 64], label: &[u32; 64], own: usize, p: u32, l: u32) -> bool
+pub(crate) fn repeats(parent: &[u8; 64], label: &[u32; 64], own: usize, p: u32, l: u32) -> bool
     requires { ⌜ (1 ≤ own) × (own ≤ 64) ⌝ }
     ensures { λ r. ⌜ r ≡ repeats (pathsFrom (now (parent .entry)) (now (label .entry)) 1 (own - 1)) p l ⌝ }
 {
@@ -130,7 +130,7 @@ fn repeats(parent: &[u8; 64], label: &[u32; 64], own: usize, p: u32, l: u32) -> 
 }
 
 // The test of a parent: 4, 5, or 0 where it passes.
-fn parent_test(depth: &[u8; 64], own: usize, p: u32) -> u8
+pub(crate) fn parent_test(depth: &[u8; 64], own: usize, p: u32) -> u8
     requires { ⌜ own ≤ 64 ⌝ }
     ensures { λ r. ⌜ r ≡ parentTest (now (depth .entry)) own p ⌝ }
 {
