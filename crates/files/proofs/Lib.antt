@@ -27,3 +27,4 @@ pub mod Tables
 pub mod Tester
 pub mod ValidTables
 pub mod Writer
+pub mod WritingJoins

@@ -1,6 +1,7 @@
 -- Writing a rule file: the test behind refusal 12, and what the answer and the buffer are.
 use Prim.Native.Nat.{ℕ, zero, suc, _+_, _-_, _%_, _<_, _≤_}
 use mathlib.Core.Path.{_≡_}
+use mathlib.Core.Logic.{_↔_}
 use mathlib.Core.Bool.{Bool, true, false, cond}
 use mathlib.Core.List.{List, [], _∷_, _++_, map}
 use lib.ListN.{length, getD, drop}
@@ -10,7 +11,7 @@ use Rattle.files.specs.declared.write.Written.{Written}
 use Rattle.files.specs.declared.write.Written.the-variants.{Length, Refused}
 use Rattle.files.specs.Number.{limit, bytesOfAll}
 use Rattle.files.specs.RuleFile.{between, parentTest, labelTest, depths, fileOf}
-use Rattle.files.specs.Rules.{rulesOf, pathsFrom, rulesFrom}
+use Rattle.files.specs.Rules.{rulesOf, pathsFrom, rulesFrom, ValidTable}
 use Rattle.files.specs.Sets.{common, difference, belowAll}
 use Rattle.files.specs.Table.{Path, Rule}
 
@@ -91,3 +92,16 @@ wrapped ns = map (λ (n : ℕ). n % limit) ns
 pub record Puts (p : Put) (r : Written) (after : List ℕ) : Type 0 where
   pub answer : r ≡ p .answer
   pub buffer : after ≡ p .buffer
+
+-- what writing a table into a lent buffer promises, on all tables and buffers
+pub record WriteRules (t : Rules) (out : List ℕ) (r : Written) (after : List ℕ) : Type 0 where
+  -- the answer, and the whole buffer after the call
+  pub puts : Puts (writeAnswer t out) r after
+  -- refusal 12 exactly if the table is not valid
+  pub invalid : (r ≡ Refused 12 0) ↔ (ValidTable t → ⊥)
+  -- refusal 20 exactly if it is valid and its file is longer than the buffer
+  pub short : (r ≡ Refused 20 0) ↔ (ValidTable t × (length out < length (fileOf (rulesOf t))))
+  -- a refusal is one of the two, at 0, and leaves every byte
+  pub refused : (k at : ℕ) → r ≡ Refused k at → (at ≡ 0) × (after ≡ out)
+  -- else the file fills the start, its length is returned, and later bytes are unchanged
+  pub written : (n : ℕ) → r ≡ Length n → (n ≡ length (fileOf (rulesOf t))) × (after ≡ fileOf (rulesOf t) ++ drop n out)

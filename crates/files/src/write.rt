@@ -8,7 +8,7 @@ ghost use Rattle.files.specs.Number.{limit, bytesOfAll};
 ghost use Rattle.files.specs.RuleFile.{pathNumbers, ruleNumbers, numbersOf};
 ghost use Rattle.files.specs.Rules.{rulesOf, pathsFrom, rulesFrom};
 ghost use Rattle.files.specs.Sets.{members};
-ghost use Rattle.files.specs.Writing.{put, wrapped, Puts, writeAnswer};
+ghost use Rattle.files.specs.Writing.{put, wrapped, Puts, WriteRules};
 use crate::number::put_number;
 use crate::number::size_of;
 use crate::read::wide32;
@@ -129,7 +129,7 @@ fn collect(rules: Rules, numbers: &mut [u32; 1024]) -> usize
 
 // The rule file of a table put into `out`: refusal 12 for a table that is not valid, then 20.
 pub fn write_rules(rules: Rules, out: &mut [u8]) -> Written
-    ensures { λ r. ⌜ Puts (writeAnswer rules (now (out .entry))) r (now (out .exit)) ⌝ }
+    ensures { λ r. ⌜ WriteRules rules (now (out .entry)) r (now (out .exit)) ⌝ }
 {
     if !valid_table(rules) {
         return Written::Refused(12, 0);
