@@ -58,7 +58,7 @@ pub ruleset members-laws = (members-less, members-count, members-on, members-mos
 -- the rules from x on begin with rule x
 pub rules-step : (kind left right : List ℕ) (x count : ℕ) → x < count
     → rulesFrom kind left right x (count - x)
-      ≡ record { kind = getD kind x 0; left = getD left x 0; right = getD right x 0 } ∷ rulesFrom kind left right (x + 1) (count - (x + 1))
+    ≡ record { kind = getD kind x 0; left = getD left x 0; right = getD right x 0 } ∷ rulesFrom kind left right (x + 1) (count - (x + 1))
 unfolding rulesFrom
 rules-step kind left right x count h = rw (let e : count - x ≡ suc (count - (x + 1)) = omega arith in e)
 

@@ -115,7 +115,7 @@ module _ (depth : List ℕ) (ps : List Path) (p : ℕ) (s : List ℕ) (at : ℕ)
         rw (run-own {A = Path} (labelTest ps p) (λ l. done (record { parent = p; label = l })) at (drop at s) l size 5 (sym e ∙ f) (rw (← g, h)))
 
     pub label-is : (own x : ℕ) → t ≡ false → p < own → own ≤ 64 → x ≡ p
-      → OnePath.Is (p % 256) l (getD depth x 0 + 1) (at + size) ≡ pathAnswer depth (run (pathLabel ps p) at (drop at s))
+        → OnePath.Is (p % 256) l (getD depth x 0 + 1) (at + size) ≡ pathAnswer depth (run (pathLabel ps p) at (drop at s))
     unfolding pathAnswer pathLabel labelTest run
     label-is own x h small most same =
         let a : p % 256 ≡ p = omega arith in
@@ -170,7 +170,7 @@ module _ (depth : List ℕ) (ps : List Path) (s : List ℕ) (at : ℕ) (r : Numb
         (parent-padded ps depth own p known has ∙ sym g ∙ j)))
 
     pub path-on : (q : OnePath) → w ≤ 0 → q ≡ pathAnswer depth (run (pathLabel ps p) (at + size) (drop (at + size) s))
-      → q ≡ pathAnswer depth (run (onePath ps) at (drop at s))
+        → q ≡ pathAnswer depth (run (onePath ps) at (drop at s))
     unfolding pathAnswer onePath
     path-on q h i = i ∙ ap (pathAnswer depth) (sym (run-on {A = Path} (parentTest (depths ps) (1 + length ps)) (λ p. pathLabel ps p) s at p size (sym e ∙ f)
         (parent-padded ps depth own p known has ∙ sym g ∙ omega arith)))

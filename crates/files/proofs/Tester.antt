@@ -108,13 +108,13 @@ pass-depths parent label = refl
 -- whether a path passes, by its depth
 passes-by : (ps : List Path) (p l d : ℕ) → d ≡ passingDepth ps p l
     → ((d ≡ 0) × (pathPasses ps (record { parent = p; label = l }) ≡ false))
-      ⊎ ((d ≡ 1 + getD (depths ps) p 0) × (pathPasses ps (record { parent = p; label = l }) ≡ true))
+    ⊎ ((d ≡ 1 + getD (depths ps) p 0) × (pathPasses ps (record { parent = p; label = l }) ≡ true))
 unfolding passingDepth
 passes-by ps p l d e = by (pathPasses ps (record { parent = p; label = l })) refl
   where
     by : (t : Bool) → pathPasses ps (record { parent = p; label = l }) ≡ t
         → ((d ≡ 0) × (pathPasses ps (record { parent = p; label = l }) ≡ false))
-          ⊎ ((d ≡ 1 + getD (depths ps) p 0) × (pathPasses ps (record { parent = p; label = l }) ≡ true))
+        ⊎ ((d ≡ 1 + getD (depths ps) p 0) × (pathPasses ps (record { parent = p; label = l }) ≡ true))
     by true f = inr (e ∙ rw f, f)
     by false f = inl (e ∙ rw f, f)
 
@@ -257,7 +257,7 @@ both-three false b c d = refl
 
 table-parts : (t : Rules) → tablePasses t
     ≡ both (pathsValid (t .parent) (t .label) (t .paths))
-      (both (requiredPass (t .paths) (t .required)) (rulesValid (t .kind) (t .left) (t .right) (t .rules) (t .paths)))
+    (both (requiredPass (t .paths) (t .required)) (rulesValid (t .kind) (t .left) (t .right) (t .rules) (t .paths)))
 unfolding tablePasses pathsValid rulesValid
 table-parts t =
     both-three

@@ -64,16 +64,24 @@ module _ (t : Rules) where
     rules-size : length rulePart ≡ 1 + 3 * t .rules
     unfolding rulePart
     rules-size =
-        omega
-        (arith, rule-numbers-length (rulesFrom (t .kind) (t .left) (t .right) 0 (t .rules)),
-         rules-from-length (t .kind) (t .left) (t .right) 0 (t .rules))
+        omega (
+          arith,
+          rule-numbers-length (rulesFrom (t .kind) (t .left) (t .right) 0 (t .rules)),
+          rules-from-length (t .kind) (t .left) (t .right) 0 (t .rules),
+        )
 
     module _ (after next : ℕ) (a : after ≡ 2 * t .paths) (b : next ≡ after + 1 + length (members (t .required))) where
       pub collected-count : (n : ℕ) → n ≡ next + 1 + 3 * t .rules → n ≡ length (numbersOf (rulesOf t))
       collected-count n c =
-          omega
-          (arith, ap length numbers-parts, length-append pathPart (requiredPart ++ rulePart), length-append requiredPart rulePart,
-           paths-size, required-size, rules-size)
+          omega (
+            arith,
+            ap length numbers-parts,
+            length-append pathPart (requiredPart ++ rulePart),
+            length-append requiredPart rulePart,
+            paths-size,
+            required-size,
+            rules-size,
+          )
 
       pub collected : (entry one two three : List ℕ)
           → one ≡ sets entry 0 (t .paths ∷ getD (t .label) 0 0 ∷ pathNumbers (pathsFrom (t .parent) (t .label) 1 (t .paths - 1)))

@@ -28,12 +28,12 @@ module _ (t : Rules) (word : t .required < 2 ^ 64) (out : List ℕ) (r : Written
   not-valid e =
       let h : (r ≡ Refused 12 0) × (after ≡ out) = is (record { answer = Refused 12 0; buffer = out }) (rw e) in
       let none : ValidTable t → ⊥ = λ v. let f : tablePasses t ≡ true = passes-valid t word .1 v in let g : true ≡ false = sym f ∙ e in let z : _≡_ {A = ℕ} 0 1 = cc in omega arith in
-      record
-      { puts = p
-      ; invalid = (λ _. none, λ _. h .0)
-      ; short = (λ f. absurd (let z : _≡_ {A = ℕ} 12 20 = cc in omega arith), λ f. absurd (none (f .0)))
-      ; refused = λ k at f. (let z : _≡_ {A = ℕ} 0 at = cc in sym z, h .1)
-      ; written = λ n f. absurd (let z : _≡_ {A = ℕ} 0 1 = cc in omega arith)
+      record {
+        puts = p;
+        invalid = (λ _. none, λ _. h .0);
+        short = (λ f. absurd (let z : _≡_ {A = ℕ} 12 20 = cc in omega arith), λ f. absurd (none (f .0)));
+        refused = λ k at f. (let z : _≡_ {A = ℕ} 0 at = cc in sym z, h .1);
+        written = λ n f. absurd (let z : _≡_ {A = ℕ} 0 1 = cc in omega arith);
       }
 
   module _ (e : tablePasses t ≡ true) where
@@ -44,26 +44,26 @@ module _ (t : Rules) (word : t .required < 2 ^ 64) (out : List ℕ) (r : Written
     unfolding writeAnswer put file
     fits f =
         let h : (r ≡ Length (length file)) × (after ≡ file ++ drop (length file) out) =
-          is (record { answer = Length (length file); buffer = file ++ drop (length file) out }) (rw (e, f)) in
+        is (record { answer = Length (length file); buffer = file ++ drop (length file) out }) (rw (e, f)) in
         let small : length file ≤ length out = leb-true (length file) (length out) f in
-        record
-        { puts = p
-        ; invalid = (λ g. absurd (let z : _≡_ {A = ℕ} 0 1 = cc in omega arith), λ g. absurd (g valid))
-        ; short = (λ g. absurd (let z : _≡_ {A = ℕ} 0 1 = cc in omega arith), λ g. absurd (omega (arith, g .1)))
-        ; refused = λ k at g. absurd (let z : _≡_ {A = ℕ} 0 1 = cc in omega arith)
-        ; written = λ n g. let same : length file ≡ n = cc in (sym same, h .1 ∙ ap (λ (k : ℕ). file ++ drop k out) same)
+        record {
+          puts = p;
+          invalid = (λ g. absurd (let z : _≡_ {A = ℕ} 0 1 = cc in omega arith), λ g. absurd (g valid));
+          short = (λ g. absurd (let z : _≡_ {A = ℕ} 0 1 = cc in omega arith), λ g. absurd (omega (arith, g .1)));
+          refused = λ k at g. absurd (let z : _≡_ {A = ℕ} 0 1 = cc in omega arith);
+          written = λ n g. let same : length file ≡ n = cc in (sym same, h .1 ∙ ap (λ (k : ℕ). file ++ drop k out) same);
         }
 
     too-long : leb (length file) (length out) ≡ false → WriteRules t out r after
     unfolding writeAnswer put file
     too-long f =
         let h : (r ≡ Refused 20 0) × (after ≡ out) = is (record { answer = Refused 20 0; buffer = out }) (rw (e, f)) in
-        record
-        { puts = p
-        ; invalid = (λ g. absurd (let z : _≡_ {A = ℕ} 12 20 = cc in omega arith), λ g. absurd (g valid))
-        ; short = (λ g. (valid, leb-false (length file) (length out) f), λ g. h .0)
-        ; refused = λ k at g. (let z : _≡_ {A = ℕ} 0 at = cc in sym z, h .1)
-        ; written = λ n g. absurd (let z : _≡_ {A = ℕ} 0 1 = cc in omega arith)
+        record {
+          puts = p;
+          invalid = (λ g. absurd (let z : _≡_ {A = ℕ} 12 20 = cc in omega arith), λ g. absurd (g valid));
+          short = (λ g. (valid, leb-false (length file) (length out) f), λ g. h .0);
+          refused = λ k at g. (let z : _≡_ {A = ℕ} 0 at = cc in sym z, h .1);
+          written = λ n g. absurd (let z : _≡_ {A = ℕ} 0 1 = cc in omega arith);
         }
 
   pub writes-rules : WriteRules t out r after

@@ -9,12 +9,10 @@ ghost use Rattle.files.specs.Table.{Path, RuleSet};
 ghost use Rattle.files.specs.RuleFile.{between, sameChild, repeats, parentTest, pathLabel, onePath, morePaths, depths, moreRequired, ruleRight, ruleLeft, oneRule, moreRules, rulesToEnd, afterRequired, requiredOn, afterPaths, afterRoot, afterCount};
 ghost use Rattle.files.specs.Rules.{pathsFrom, padded, addAll, tableOf};
 ghost use Rattle.files.specs.Reading.{tested, pathAnswer, pathsAnswer, requiredAnswer, ruleAnswer, ruleListAnswer, PathsIn, readingOf, ReadRules};
-
 use crate::number::Number;
 use crate::number::read_number;
 use crate::rules::Rules;
 use crate::sets::with;
-
 
 // One path: its parent, its label, its depth and the place after it.
 enum OnePath {
@@ -412,7 +410,15 @@ fn read_rule_count(
 {
     match read_between(s, at, 0, 257, 8) {
         Number::Refused(why) => refuse(why, at),
-        Number::Is(many, size) => read_to_end(s, at + size, wide_number(many), count, parent, label, required),
+        Number::Is(many, size) => read_to_end(
+            s,
+            at + size,
+            wide_number(many),
+            count,
+            parent,
+            label,
+            required,
+        ),
     }
 }
 
@@ -436,7 +442,13 @@ fn read_required_paths(
 }
 
 // Required count and required paths, and on.
-fn read_required_count(s: &[u8], at: usize, count: u32, parent: [u8; 64], label: [u32; 64]) -> Reading
+fn read_required_count(
+    s: &[u8],
+    at: usize,
+    count: u32,
+    parent: [u8; 64],
+    label: [u32; 64],
+) -> Reading
     requires { ⌜ count ≤ 64 ⌝ }
     ensures { λ r. ⌜ ((root : ℕ) (ps : List Path) → PathsIn count parent label root ps
         → r ≡ readingOf (atEnd (length (now (s .entry))) (run (afterPaths root ps) at (drop at (now (s .entry)))))) ⌝ }

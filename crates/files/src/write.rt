@@ -61,7 +61,12 @@ pub fn put_numbers(numbers: &[u32], out: &mut [u8]) -> Written
 }
 
 // Path count, root label, parents and labels stored at the start; the place after them.
-fn collect_paths(parent: &[u8; 64], label: &[u32; 64], count: usize, numbers: &mut [u32; 1024]) -> usize
+fn collect_paths(
+    parent: &[u8; 64],
+    label: &[u32; 64],
+    count: usize,
+    numbers: &mut [u32; 1024],
+) -> usize
     requires { ⌜ (1 ≤ count) × (count ≤ 64) ⌝ }
     ensures { λ r. ⌜ (r ≡ 2 * count) × (now (numbers .exit) ≡ sets (now (numbers .entry)) 0 (count ∷ getD (now (label .entry)) 0 0 ∷ pathNumbers (pathsFrom (now (parent .entry)) (now (label .entry)) 1 (count - 1)))) ⌝ }
 {
@@ -95,7 +100,14 @@ fn collect_required(required: u64, start: usize, numbers: &mut [u32; 1024]) -> u
 }
 
 // Rule count and rules stored from `start` on; the place after them.
-fn collect_rules(kind: &[u8; 256], left: &[u8; 256], right: &[u8; 256], count: usize, start: usize, numbers: &mut [u32; 1024]) -> usize
+fn collect_rules(
+    kind: &[u8; 256],
+    left: &[u8; 256],
+    right: &[u8; 256],
+    count: usize,
+    start: usize,
+    numbers: &mut [u32; 1024],
+) -> usize
     requires { ⌜ (count ≤ 256) × (start ≤ 193) ⌝ }
     ensures { λ r. ⌜ (r ≡ start + 1 + 3 * count) × (now (numbers .exit) ≡ sets (now (numbers .entry)) start (count ∷ ruleNumbers (rulesFrom (now (kind .entry)) (now (left .entry)) (now (right .entry)) 0 count))) ⌝ }
 {
