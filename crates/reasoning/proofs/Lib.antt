@@ -1,3 +1,6 @@
 -- The laws of walks, of reachable sets, of the decisions and of evidence.
 pub mod Walks
 pub mod Written
+pub mod OneStep
+pub mod Reachable
+pub mod Cut
