@@ -4,3 +4,5 @@ pub mod Written
 pub mod OneStep
 pub mod Reachable
 pub mod Cut
+pub mod Moves
+pub mod Search

@@ -190,7 +190,7 @@ pub data Stepped (parent : ℕ → ℕ) (rules : List Rule) (x y : ℕ) : Way �
   ahead : (code : ℕ) → Step parent rules x code y → Stepped parent rules x y onward
   behind : (code : ℕ) → Step parent rules y code x → Stepped parent rules x y backward
 
-along-kind : (ru : Rule) → goesAlong ru ≡ true → (ru .kind ≡ 1) ⊎ (ru .kind ≡ 3)
+pub along-kind : (ru : Rule) → goesAlong ru ≡ true → (ru .kind ≡ 1) ⊎ (ru .kind ≡ 3)
 unfolding goesAlong
 along-kind ru h = pick (eqb (ru .kind) 1) refl
   where
@@ -198,16 +198,16 @@ along-kind ru h = pick (eqb (ru .kind) 1) refl
     pick true e = inl (eqb-true (ru .kind) 1 e)
     pick false e = inr (eqb-true (ru .kind) 3 (rw e at h))
 
-kind-along : (ru : Rule) → (ru .kind ≡ 1) ⊎ (ru .kind ≡ 3) → goesAlong ru ≡ true
+pub kind-along : (ru : Rule) → (ru .kind ≡ 1) ⊎ (ru .kind ≡ 3) → goesAlong ru ≡ true
 unfolding goesAlong
 kind-along ru (inl e) = rw e refl
 kind-along ru (inr e) = rw e refl
 
-against-kind : (ru : Rule) → goesAgainst ru ≡ true → ru .kind ≡ 3
+pub against-kind : (ru : Rule) → goesAgainst ru ≡ true → ru .kind ≡ 3
 unfolding goesAgainst
 against-kind ru h = eqb-true (ru .kind) 3 h
 
-kind-against : (ru : Rule) → ru .kind ≡ 3 → goesAgainst ru ≡ true
+pub kind-against : (ru : Rule) → ru .kind ≡ 3 → goesAgainst ru ≡ true
 unfolding goesAgainst
 kind-against ru e = rw e refl
 

@@ -106,6 +106,28 @@ T-hasb w i = (λ t. pick (hasb w i) refl t, λ h. rw (hasb-has w i h) tt)
     pick true e t = hasb-true w i e
     pick false e t = absurd (rw e at t)
 
+-- the set of x alone, if it is within
+pub alone-iff : (within x y : ℕ) → x < 64 → Has (alone within x) y ↔ ((y ≡ x) × Has within x)
+unfolding alone
+alone-iff within x y l = pick (hasb within x) refl
+  where
+    only : (y ≡ x) ⊎ Has 0 y → y ≡ x
+    only (inl e) = e
+    only (inr h) = absurd (not-has (bit-of-zero y) h)
+    pick : (t : Bool) → hasb within x ≡ t → Has (alone within x) y ↔ ((y ≡ x) × Has within x)
+    pick true e =
+        rw (alone, e) (λ h. (only (has-with 0 x y l .0 h), hasb-true within x e), λ h. has-with 0 x y l .1 (inl (h .0)))
+    pick false e =
+        rw (alone, e) (λ h. absurd (not-has (bit-of-zero y) h), λ h. absurd (not-has (hasb-false within x e) (h .1)))
+
+pub alone-small : (within x : ℕ) → alone within x < 2 ^ 64
+unfolding alone
+alone-small within x = pick (hasb within x) refl
+  where
+    pick : (t : Bool) → hasb within x ≡ t → alone within x < 2 ^ 64
+    pick true e = rw (alone, e) (with-lt 0 x (lit< tt))
+    pick false e = rw (alone, e) (lit< tt)
+
 -- what every pass keeps holds of the settled word, and that word is left unchanged by the pass
 module _ (pass : ℕ → ℕ) (P : ℕ → Type 0) (keeps : (s : ℕ) → P s → P (pass s)) where
   settle-keeps : (fuel s : ℕ) → P s → P (settle pass fuel s)
@@ -176,29 +198,20 @@ module _ {parent : ℕ → ℕ} {rules : List Rule} {count : ℕ} (fits : Fits p
               (subtree-iff (fits .descending) c count inTable (fits .few) y .0 (l .inside) .1)
 
     begin : Found (alone (subtree parent count c) x)
-    unfolding alone
-    begin = pick (hasb (subtree parent count c) x) refl
+    begin = record {
+      small = alone-small (subtree parent count c) x;
+      reached = λ y h. itself y (found y h);
+      begun = λ b. alone-iff (subtree parent count c) x x low .1 (refl, within .1 (given, b))
+    }
       where
-        small-table : x < 64
-        small-table = omega (arith, fits .few)
-        inside : Has (subtree parent count c) x ↔ ((x < count) × Below parent c x)
-        inside = subtree-iff (fits .descending) c count inTable (fits .few) x
-        itself : Below parent c x → (y : ℕ) → (y ≡ x) ⊎ Has 0 y → Reach parent rules c x y
-        itself b y (inl e) = subst (λ (z : ℕ). Reach parent rules c x z) (sym e) (reach-refl b)
-        itself b y (inr h) = absurd (not-has (bit-of-zero y) h)
-        pick : (t : Bool) → hasb (subtree parent count c) x ≡ t → Found (alone (subtree parent count c) x)
-        pick true e =
-            rw (alone, e) (record {
-              small = with-lt 0 x (lit< tt);
-              reached = λ y h. itself (inside .0 (hasb-true (subtree parent count c) x e) .1) y (has-with 0 x y small-table .0 h);
-              begun = λ b. has-with 0 x x small-table .1 (inl refl)
-            })
-        pick false e =
-            rw (alone, e) (record {
-              small = lit< tt;
-              reached = λ y h. absurd (not-has (bit-of-zero y) h);
-              begun = λ b. absurd (not-has (hasb-false (subtree parent count c) x e) (inside .1 (given, b)))
-            })
+        low : x < 64
+        low = omega (arith, fits .few)
+        within : Has (subtree parent count c) x ↔ ((x < count) × Below parent c x)
+        within = subtree-iff (fits .descending) c count inTable (fits .few) x
+        found : (y : ℕ) → Has (alone (subtree parent count c) x) y → (y ≡ x) × Has (subtree parent count c) x
+        found y h = alone-iff (subtree parent count c) x y low .0 h
+        itself : (y : ℕ) → (y ≡ x) × Has (subtree parent count c) x → Reach parent rules c x y
+        itself y f = subst (λ (z : ℕ). Reach parent rules c x z) (sym (f .0)) (reach-refl (within .0 (f .1) .1))
 
     end : Found (reachable parent rules count c x)
     unfolding reachable pass

@@ -1,3 +1,4 @@
 pub mod Walk
 pub mod Written
 pub mod Reachable
+pub mod Search
