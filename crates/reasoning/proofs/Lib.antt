@@ -6,3 +6,6 @@ pub mod Reachable
 pub mod Cut
 pub mod Moves
 pub mod Search
+pub mod Least
+pub mod Decide
+pub mod Pairs

@@ -2,3 +2,5 @@ pub mod Walk
 pub mod Written
 pub mod Reachable
 pub mod Search
+pub mod Least
+pub mod Decide
