@@ -9,3 +9,4 @@ pub mod Search
 pub mod Least
 pub mod Decide
 pub mod Pairs
+pub mod RootPair

@@ -146,3 +146,7 @@ module _ (parent : ℕ → ℕ) (rules : List Rule) (count : ℕ) where
   -- the lowest dead path asked for; the number of paths if there is none
   unfoldable pub deadAsked : (asked : ℕ) → ℕ
   deadAsked asked = least (λ x. hasb asked x && isDead x) count
+
+  -- whether a path asked for is dead
+  unfoldable pub isAskedDead : (asked : ℕ) → Bool
+  isAskedDead asked = ltb (deadAsked asked) count
