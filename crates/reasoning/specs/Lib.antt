@@ -4,3 +4,4 @@ pub mod Reachable
 pub mod Search
 pub mod Least
 pub mod Decide
+pub mod Evidence
