@@ -2,21 +2,26 @@
 use Prim.Native.Nat.{ℕ, zero, suc, _+_, _≤_, _<_}
 use mathlib.Core.Path.{_≡_, refl, sym, ap, _∙_, subst}
 use mathlib.Core.Logic.{_⊎_, inl, inr, _↔_}
-use mathlib.Core.Bool.{Bool, true, false, not}
+use mathlib.Core.Bool.{Bool, true, false}
 use native.Mathlib.Omega.{arith}
 use lib.Dec.{T, eqb, ltb, eqb→eq, eqb-refl, ltb→lt, nltb→le}
+pub use borrow.Author.Tests.{eqb-true, eqb-false}
 use Rattle.documents.specs.Paths.{
-  Below, same, up, StrictlyBelow, Context, Descending, climbsTo, belowb, meet, contextOf, climbUnder, towards, climbs, depthOf
+  Below,
+  same,
+  up,
+  StrictlyBelow,
+  Context,
+  Descending,
+  climbsTo,
+  belowb,
+  meet,
+  contextOf,
+  climbUnder,
+  towards,
+  climbs,
+  depthOf,
 }
-
--- a test that failed refutes the equation
-pub eqb-false : (x y : ℕ) → eqb x y ≡ false → x ≡ y → ⊥
-eqb-false x y e p =
-    subst (λ (b : Bool). T b) (subst (λ (z : ℕ). eqb x z ≡ false) (sym p) e) (eqb-refl x)
-
--- a test that passed gives the equation
-pub eqb-true : (x y : ℕ) → eqb x y ≡ true → x ≡ y
-eqb-true x y e = eqb→eq x y (subst (λ (b : Bool). T b) (sym e) tt)
 
 -- x is below itself
 pub below-refl : {parent : ℕ → ℕ} (x : ℕ) → Below parent x x
@@ -46,12 +51,12 @@ parent-below x = up (same refl)
 
 -- two prefixes of one path: one is below the other
 pub below-comparable : {parent : ℕ → ℕ} {a b x : ℕ} → Below parent a x → Below parent b x
-  → Below parent a b ⊎ Below parent b a
+    → Below parent a b ⊎ Below parent b a
 below-comparable {parent} {b = b} (same e) k = inr (subst (λ (z : ℕ). Below parent b z) (sym e) k)
 below-comparable {parent} {a} {b} {x} (up h) k = pick (below-step k) (λ (k′ : Below parent b (parent x)). below-comparable h k′)
   where
     pick : (b ≡ x) ⊎ Below parent b (parent x) → (Below parent b (parent x) → Below parent a b ⊎ Below parent b a)
-      → Below parent a b ⊎ Below parent b a
+        → Below parent a b ⊎ Below parent b a
     pick (inl e) again = inl (subst (λ (z : ℕ). Below parent a z) (sym e) (up h))
     pick (inr k′) again = again k′
 
@@ -86,10 +91,6 @@ module _ {parent : ℕ → ℕ} (desc : Descending parent) where
   pub strictly-trans : {a b c : ℕ} → StrictlyBelow parent a b → Below parent b c → StrictlyBelow parent a c
   strictly-trans s h = record { below = below-trans (s .below) h; other = λ e. omega (arith, strictly-lt s, below-le h) }
 
-  -- strictly below a path below c is strictly below c
-  pub trans-strictly : {a b c : ℕ} → Below parent a b → StrictlyBelow parent b c → StrictlyBelow parent a c
-  trans-strictly h s = record { below = below-trans h (s .below); other = λ e. omega (arith, strictly-lt s, below-le h) }
-
   -- a climb takes one from the fuel
   pub parent-fuel : (x fuel : ℕ) → x ≤ suc fuel → parent x ≤ fuel
   parent-fuel zero fuel h = rw (desc .root) (omega arith)
@@ -110,11 +111,12 @@ module _ {parent : ℕ → ℕ} (desc : Descending parent) where
       pick (eqb c x) refl (λ (k : Below parent c (parent x)). climbs-found c fuel (parent x) (parent-fuel x fuel h) k)
     where
       onward : eqb c x ≡ false → (c ≡ x) ⊎ Below parent c (parent x)
-        → (Below parent c (parent x) → T (climbsTo parent c fuel (parent x))) → T (climbsTo parent c fuel (parent x))
+          → (Below parent c (parent x) → T (climbsTo parent c fuel (parent x))) → T (climbsTo parent c fuel (parent x))
       onward e (inl p) again = absurd (eqb-false c x e p)
       onward e (inr k) again = again k
+
       pick : (t : Bool) → eqb c x ≡ t → (Below parent c (parent x) → T (climbsTo parent c fuel (parent x)))
-        → T (climbsTo parent c (suc fuel) x)
+          → T (climbsTo parent c (suc fuel) x)
       pick true e again = rw (e, climbsTo) tt
       pick false e again = rw (e, climbsTo) (onward e (below-step b) again)
 
@@ -162,7 +164,8 @@ module _ {parent : ℕ → ℕ} (desc : Descending parent) where
 
   -- of two unequal paths the greater number climbs
   context-climb : {p q c : ℕ} → p < q → Context parent p (parent q) c → Context parent p q c
-  context-climb {p} {q} {c} l x = record { left = x .left; right = up (x .right); longest = λ d h k. x .longest d h (pick d h (below-step k)) }
+  context-climb {p} {q} {c} l x =
+      record { left = x .left; right = up (x .right); longest = λ d h k. x .longest d h (pick d h (below-step k)) }
     where
       pick : (d : ℕ) → Below parent d p → (d ≡ q) ⊎ Below parent d (parent q) → Below parent d (parent q)
       pick d h (inl e) = let s : d ≤ p = below-le h in absurd (omega arith)
@@ -173,11 +176,11 @@ module _ {parent : ℕ → ℕ} (desc : Descending parent) where
   meet-context zero p q h = context-prefix (same {x = q} (omega arith))
   meet-context (suc fuel) p q h =
       pick (eqb p q) (ltb p q) refl refl
-        (λ l. meet-context fuel p (parent q) (omega (arith, desc .smaller q (omega arith))))
-        (λ l. meet-context fuel (parent p) q (omega (arith, desc .smaller p (omega arith))))
+      (λ l. meet-context fuel p (parent q) (omega (arith, desc .smaller q (omega arith))))
+      (λ l. meet-context fuel (parent p) q (omega (arith, desc .smaller p (omega arith))))
     where
       pick : (s t : Bool) → eqb p q ≡ s → ltb p q ≡ t → (p < q → Context parent p (parent q) (meet parent fuel p (parent q)))
-        → (q < p → Context parent (parent p) q (meet parent fuel (parent p) q)) → Context parent p q (meet parent (suc fuel) p q)
+          → (q < p → Context parent (parent p) q (meet parent fuel (parent p) q)) → Context parent p q (meet parent (suc fuel) p q)
       pick true t e f right left = rw (e, meet) (context-prefix (same (eqb-true p q e)))
       pick false true e f right left = let l : p < q = ltb→lt p q (rw f tt) in rw (e, f, meet) (context-climb l (right l))
       pick false false e f right left =
@@ -218,8 +221,8 @@ module _ {parent : ℕ → ℕ} (desc : Descending parent) where
       pick (eqb (parent x) c) refl (climb-child c fuel (parent x) (parent-fuel x fuel h))
     where
       pick : (t : Bool) → eqb (parent x) c ≡ t
-        → (StrictlyBelow parent c (parent x) → Child c (climbUnder parent c fuel (parent x)) (parent x))
-        → Child c (climbUnder parent c (suc fuel) x) x
+          → (StrictlyBelow parent c (parent x) → Child c (climbUnder parent c fuel (parent x)) (parent x))
+          → Child c (climbUnder parent c (suc fuel) x) x
       pick true e again = rw (e, climbUnder) (record { parent-is = eqb-true (parent x) c e; strictly = s; towards-it = below-refl x })
       pick false e again =
           let k = again (record { below = strictly-up s; other = λ p. eqb-false (parent x) c e (sym p) }) in
@@ -246,9 +249,11 @@ module _ {parent : ℕ → ℕ} (desc : Descending parent) where
     where
       t : StrictlyBelow parent c g
       t = strictly-trans s h
+
       climbed : (m ≡ towards parent c g) ⊎ Below parent m (parent (towards parent c g)) → Below parent (towards parent c g) m
       climbed (inl e) = same (sym e)
       climbed (inr k) = absurd (s .other (below-antisym (s .below) (subst (λ (z : ℕ). Below parent m z) (towards-parent t) k)))
+
       pick : Below parent (towards parent c g) m ⊎ Below parent m (towards parent c g) → Below parent (towards parent c g) m
       pick (inl k) = k
       pick (inr k) = climbed (below-step k)
@@ -265,7 +270,7 @@ module _ {parent : ℕ → ℕ} (desc : Descending parent) where
 
   -- what is below c's child towards g is below c on the same side
   pub towards-same : {c g x : ℕ} → StrictlyBelow parent c g → Below parent (towards parent c g) x
-    → towards parent c x ≡ towards parent c g
+      → towards parent c x ≡ towards parent c g
   towards-same s h = sym (towards-unique (towards-strictly s) (towards-parent s) h)
 
   climbs-root : (fuel : ℕ) → climbs parent fuel 0 ≡ 1
@@ -282,7 +287,7 @@ module _ {parent : ℕ → ℕ} (desc : Descending parent) where
       pick false e = rw (e, climbs)
 
   climbs-up : (n m x : ℕ) → climbs parent n (parent x) ≡ climbs parent m (parent x)
-    → climbs parent (suc n) x ≡ climbs parent (suc m) x
+      → climbs parent (suc n) x ≡ climbs parent (suc m) x
   climbs-up n m zero e = climbs-root (suc n) ∙ sym (climbs-root (suc m))
   climbs-up n m (suc x) e = climbs-suc n (suc x) (omega arith) ∙ ap suc e ∙ sym (climbs-suc m (suc x) (omega arith))
 

@@ -1,3 +1,5 @@
 pub mod Paths
 pub mod Tree
 pub mod Obey
+pub mod Parts
+pub mod Extent

@@ -39,8 +39,8 @@ unfoldable pub meet : (parent : ℕ → ℕ) (fuel p q : ℕ) → ℕ
 meet parent zero p q = p
 meet parent (suc fuel) p q =
     elim (eqb p q) [
-      true ↦ p
-    | false ↦ elim (ltb p q) [ true ↦ meet parent fuel p (parent q) | false ↦ meet parent fuel (parent p) q ]
+      | true ↦ p
+      | false ↦ elim (ltb p q) [ true ↦ meet parent fuel p (parent q) | false ↦ meet parent fuel (parent p) q ]
     ]
 
 -- the context of two paths, computed

@@ -1,4 +1,4 @@
--- The laws of walks, of reachable sets, of the decisions and of evidence.
+-- The laws of walks, of reachable sets, of the decisions, of evidence and of the documents handed back.
 pub mod Walks
 pub mod Written
 pub mod OneStep
@@ -10,3 +10,9 @@ pub mod Least
 pub mod Decide
 pub mod Pairs
 pub mod RootPair
+pub mod Soundness
+pub mod Fill
+pub mod Kids
+pub mod Completeness
+pub mod HandedBack
+pub mod Equivalences

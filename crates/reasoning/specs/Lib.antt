@@ -5,3 +5,6 @@ pub mod Search
 pub mod Least
 pub mod Decide
 pub mod Evidence
+pub mod Required
+pub mod Parts
+pub mod Follows
