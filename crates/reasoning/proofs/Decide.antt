@@ -92,7 +92,7 @@ module _ {parent : ℕ → ℕ} {rules : List Rule} {count : ℕ} (fits : Fits p
   -- a rule's context is a path of the table
   pub context-in-table : (r : ℕ) (ru : Rule) → Numbered rules r ru → contextOf parent (ru .left) (ru .right) < count
   context-in-table r ru n =
-      omega (arith, fits .left r ru n, below-le (fits .descending) (contextOf-context (fits .descending) (ru .left) (ru .right) .left))
+      omega (arith, fits .rulesIn .left r ru n, below-le (fits .descending) (contextOf-context (fits .descending) (ru .left) (ru .right) .left))
 
   dead-clash : {p y r : ℕ} → DeadBy parent rules p y r → Clash parent rules y r
   dead-clash d = record {

@@ -10,6 +10,8 @@ pub mod Least
 pub mod Decide
 pub mod Pairs
 pub mod RootPair
+pub mod Evidence
+pub mod Writes
 pub mod Soundness
 pub mod Fill
 pub mod Kids

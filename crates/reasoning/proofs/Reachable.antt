@@ -156,8 +156,8 @@ module _ {parent : ℕ → ℕ} {rules : List Rule} {count : ℕ} (fits : Fits p
   -- a step from a path of the table leads to one
   pub step-in-table : {x code y : ℕ} → x < count → Step parent rules x code y → y < count
   step-in-table {x} h (climb z e p) = omega (arith, parent-le (fits .descending) x)
-  step-in-table h (along r ru n k e a b) = rw b at (fits .right r ru n)
-  step-in-table h (against r ru n k e a b) = rw b at (fits .left r ru n)
+  step-in-table h (along r ru n k e a b) = rw b at (fits .rulesIn .right r ru n)
+  step-in-table h (against r ru n k e a b) = rw b at (fits .rulesIn .left r ru n)
 
   -- a walk from a path of the table ends at one
   pub walk-in-table : {c x y : ℕ} {codes : List ℕ} → x < count → Walk parent rules c x codes y → y < count

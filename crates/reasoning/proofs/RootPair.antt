@@ -14,6 +14,7 @@ use Rattle.files.proofs.SetBits.{has-with, not-has, bit-of-zero}
 use Rattle.documents.specs.Paths.{Below, same, Context, contextOf}
 use Rattle.documents.proofs.Paths.{below-zero, contextOf-context, context-is}
 use Rattle.reasoning.specs.Walk.{Reach, Dead, PairBy}
+use Rattle.reasoning.specs.Required.{Needed, root, listed}
 use Rattle.reasoning.specs.Reachable.{Fits, reachb}
 use Rattle.reasoning.specs.Decide.{
   ruleAt, RootPair, LeastRootPair, LowestDead, askedIn, reacher, rootSides, rootb, rootRule, isRootPair, rootFirst, rootSecond, isDead, deadAsked,
@@ -24,37 +25,35 @@ use Rattle.reasoning.proofs.Reachable.{T-hasb, reachb-iff}
 use Rattle.reasoning.proofs.Least.{least-passes, least-least, least-some}
 use Rattle.reasoning.proofs.Decide.{ruleAt-numbered, AbsenceWith, absence-test, isDead-iff}
 
--- the set asked for has the root and the required paths
+-- the set asked for has the paths that every document asked for has
 pub askedIn-iff : (required : List ℕ) → ((x : ℕ) → List·Memᴰ x required → x < 64) → (x : ℕ)
-  → Has (askedIn required) x ↔ ((x ≡ 0) ⊎ List·Memᴰ x required)
+  → Has (askedIn required) x ↔ Needed required x
 unfolding askedIn
-askedIn-iff [] low x = (λ h. inl (only (has-with 0 0 x (omega arith) .0 h)), λ h. has-with 0 0 x (omega arith) .1 (inl (root h)))
+askedIn-iff [] low x = (λ h. root (only (has-with 0 0 x (omega arith) .0 h)), λ h. has-with 0 0 x (omega arith) .1 (inl (root-of h)))
   where
     only : (x ≡ 0) ⊎ Has 0 x → x ≡ 0
     only (inl e) = e
     only (inr h) = absurd (not-has (bit-of-zero x) h)
-    root : (x ≡ 0) ⊎ List·Memᴰ x [] → x ≡ 0
-    root (inl e) = e
-    root (inr m) = absurd (List·Memᴰ·not-nil m)
+    root-of : Needed [] x → x ≡ 0
+    root-of (root e) = e
+    root-of (listed m) = absurd (List·Memᴰ·not-nil m)
 askedIn-iff (a ∷ rest) low x =
     let again = askedIn-iff rest (λ z m. low z (List·Memᴰ·tail m)) x in
     let one = has-with (askedIn rest) a x (low a (List·Memᴰ·head refl)) in
     (λ h. out (again .0) (one .0 h), λ h. one .1 (into (again .1) h))
   where
-    out : (Has (askedIn rest) x → (x ≡ 0) ⊎ List·Memᴰ x rest) → (x ≡ a) ⊎ Has (askedIn rest) x → (x ≡ 0) ⊎ List·Memᴰ x (a ∷ rest)
-    out again (inl e) = inr (List·Memᴰ·head e)
+    deeper : Needed rest x → Needed (a ∷ rest) x
+    deeper (root e) = root e
+    deeper (listed m) = listed (List·Memᴰ·tail m)
+    out : (Has (askedIn rest) x → Needed rest x) → (x ≡ a) ⊎ Has (askedIn rest) x → Needed (a ∷ rest) x
+    out again (inl e) = listed (List·Memᴰ·head e)
     out again (inr h) = deeper (again h)
-      where
-        deeper : (x ≡ 0) ⊎ List·Memᴰ x rest → (x ≡ 0) ⊎ List·Memᴰ x (a ∷ rest)
-        deeper (inl e) = inl e
-        deeper (inr m) = inr (List·Memᴰ·tail m)
-    into : ((x ≡ 0) ⊎ List·Memᴰ x rest → Has (askedIn rest) x) → (x ≡ 0) ⊎ List·Memᴰ x (a ∷ rest) → (x ≡ a) ⊎ Has (askedIn rest) x
-    into again (inl e) = inr (again (inl e))
-    into again (inr m) = tail-of (List·Memᴰ·cases-cons m)
-      where
-        tail-of : (x ≡ a) ⊎ List·Memᴰ x rest → (x ≡ a) ⊎ Has (askedIn rest) x
-        tail-of (inl e) = inl e
-        tail-of (inr k) = inr (again (inr k))
+    tail-of : (Needed rest x → Has (askedIn rest) x) → (x ≡ a) ⊎ List·Memᴰ x rest → (x ≡ a) ⊎ Has (askedIn rest) x
+    tail-of again (inl e) = inl e
+    tail-of again (inr k) = inr (again (listed k))
+    into : (Needed rest x → Has (askedIn rest) x) → Needed (a ∷ rest) x → (x ≡ a) ⊎ Has (askedIn rest) x
+    into again (root e) = inr (again (root e))
+    into again (listed m) = tail-of again (List·Memᴰ·cases-cons m)
 
 -- there is one least root pair
 pub least-root-pair-unique : {parent : ℕ → ℕ} {rules : List Rule} {asked x y r u v s : ℕ} → LeastRootPair parent rules asked x y r
@@ -134,12 +133,12 @@ module _ {parent : ℕ → ℕ} {rules : List Rule} {count : ℕ} (fits : Fits p
           let k = ltb (reacher parent rules count asked (ru .right)) count in
           let first = reacher-found (ru .left) (and-l l k (and-r e (l && k) (a .holds))) in
           let second = reacher-found (ru .right) (and-r l k (and-r e (l && k) (a .holds))) in
-          let root : contextOf parent (ru .left) (ru .right) ≡ 0 = eqb→eq (contextOf parent (ru .left) (ru .right)) 0 (and-l e (l && k) (a .holds)) in
+          let at-zero : contextOf parent (ru .left) (ru .right) ≡ 0 = eqb→eq (contextOf parent (ru .left) (ru .right)) 0 (and-l e (l && k) (a .holds)) in
           rw (ruleAt-numbered (a .rule)) (record {
             first = first .member; second = second .member;
             by = record {
               ru = ru; rule = a .rule; absence = a .absence; context = 0;
-              isContext = subst (λ (z : ℕ). Context parent (ru .left) (ru .right) z) root
+              isContext = subst (λ (z : ℕ). Context parent (ru .left) (ru .right) z) at-zero
                 (contextOf-context (fits .descending) (ru .left) (ru .right));
               prefix = same refl; left = first .reached; right = second .reached
             }

@@ -16,6 +16,7 @@ use Rattle.reasoning.specs.Written.{Smaller, here, later, Before, shorte
 use Rattle.reasoning.specs.Reachable.{Fits, backward, subtree, alone, oneStep}
 use Rattle.reasoning.specs.Search.{Move, leastMove, forward, seek, writtenWalk}
 use Rattle.reasoning.proofs.Walks.{step-unique, walk-start, walk-end, walk-none, Onward, walk-onward}
+use Rattle.reasoning.proofs.Written.{written-unique}
 use Rattle.reasoning.proofs.OneStep.{Led, Stepped, behind, StepLaw, onestep-law}
 use Rattle.reasoning.proofs.Reachable.{subtree-iff, subtree-small, alone-iff, alone-small, step-in-table, walk-in-table}
 use Rattle.reasoning.proofs.Cut.{Shortest, written-bound}
@@ -208,3 +209,7 @@ module _ {parent : ℕ → ℕ} {rules : List Rule} {count : ℕ} (fits : Fits p
   writtenWalk-written x h a =
       let w = sought (length (a .codes)) x h (record { codes = a .codes; walk = a .walk; few = omega arith }) in
       sought 64 x h (record { codes = _; walk = w .walk; few = omega (arith, written-bound fits h w) })
+
+  -- whatever is the written walk is the computed one
+  pub written-is : {x : ℕ} {codes : List ℕ} → x < count → Written parent rules c x codes y → codes ≡ writtenWalk parent rules count c x y
+  written-is {x} {codes} h w = written-unique w (writtenWalk-written x h (record { codes = codes; walk = w .walk }))

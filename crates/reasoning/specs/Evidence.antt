@@ -158,6 +158,14 @@ pub data WritesInconsistent (parent : ℕ → ℕ) (rules : List Rule) (asked : 
 
 -- ---- the answers and the numbers, computed
 
+-- the side of a rule that the first path of a pair reaches
+unfoldable pub firstSide : Rule → ℕ → ℕ
+firstSide ru side = elim (eqb side 0) [ true ↦ ru .left | false ↦ ru .right ]
+
+-- the side of a rule that the second path of a pair reaches
+unfoldable pub secondSide : Rule → ℕ → ℕ
+secondSide ru side = elim (eqb side 0) [ true ↦ ru .right | false ↦ ru .left ]
+
 module _ (parent : ℕ → ℕ) (rules : List Rule) (count : ℕ) where
   -- whether an implication is answered yes: direct or dead
   unfoldable pub impliesb : (p q : ℕ) → Bool
@@ -194,14 +202,6 @@ module _ (parent : ℕ → ℕ) (rules : List Rule) (count : ℕ) where
   -- the evidence that p is dead
   unfoldable pub deadNumbers : (p : ℕ) → List ℕ
   deadNumbers p = deadNumbersBy p (deadPath parent rules count p) (deadRule parent rules count p)
-
-  -- the side of a rule that the first path of a pair reaches
-  unfoldable pub firstSide : Rule → ℕ → ℕ
-  firstSide ru side = elim (eqb side 0) [ true ↦ ru .left | false ↦ ru .right ]
-
-  -- the side of a rule that the second path of a pair reaches
-  unfoldable pub secondSide : Rule → ℕ → ℕ
-  secondSide ru side = elim (eqb side 0) [ true ↦ ru .right | false ↦ ru .left ]
 
   -- the evidence by rule number r and its side that x and y are excluded
   unfoldable pub pairNumbers : (x y r side : ℕ) → List ℕ

@@ -1,10 +1,10 @@
 pub mod Walk
 pub mod Written
+pub mod Required
+pub mod Parts
+pub mod Follows
 pub mod Reachable
 pub mod Search
 pub mod Least
 pub mod Decide
 pub mod Evidence
-pub mod Required
-pub mod Parts
-pub mod Follows

@@ -4,17 +4,17 @@ use mathlib.Core.Bool.{Bool, true, false, _&&_, _||_}
 use mathlib.Core.List.{List, [], _∷_}
 use lib.Dec.{eqb}
 use lib.ListN.{length}
-use Rattle.files.specs.Table.{Rule, Numbered}
+use Rattle.files.specs.Table.{Rule}
 use Rattle.files.specs.Sets.{hasb, withPath}
 use Rattle.documents.specs.Paths.{Descending}
+use Rattle.reasoning.specs.Parts.{RulesIn}
 
 -- what a valid table of `count` paths says of its parents and rules
 pub record Fits (parent : ℕ → ℕ) (rules : List Rule) (count : ℕ) : Type 0 where
   pub descending : Descending parent
   pub few : count ≤ 64
   pub fewRules : length rules ≤ 256
-  pub left : (r : ℕ) (ru : Rule) → Numbered rules r ru → ru .left < count
-  pub right : (r : ℕ) (ru : Rule) → Numbered rules r ru → ru .right < count
+  pub rulesIn : RulesIn count rules
 
 -- the ways to take a step: from its start to its end, or back from its end to its start
 pub data Way : Type 0 where
