@@ -12,6 +12,7 @@ pub mod Pairs
 pub mod RootPair
 pub mod Evidence
 pub mod Writes
+pub mod Shows
 pub mod Soundness
 pub mod Fill
 pub mod Kids
