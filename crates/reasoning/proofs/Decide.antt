@@ -1,24 +1,20 @@
 -- A path is computed to be dead exactly if it is, with the least y and then the least rule.
-use Prim.Native.Nat.{ℕ, zero, suc, _+_, _≤_, _<_}
-use mathlib.Core.Path.{_≡_, refl, sym, ap, _∙_, subst}
-use mathlib.Core.Logic.{_⊎_, inl, inr, _↔_}
-use mathlib.Core.Bool.{Bool, true, false, _&&_, _||_}
+use Prim.Native.Nat.{ℕ, zero, suc, _≤_, _<_}
+use mathlib.Core.Path.{_≡_, refl, sym, subst}
+use mathlib.Core.Logic.{_↔_}
+use mathlib.Core.Bool.{Bool, _&&_}
 use mathlib.Core.List.{List, [], _∷_}
 use native.Mathlib.Omega.{arith}
-use native.Mathlib.Decide.{decLt}
-use lib.Dec.{T, eqb, ltb, eqb→eq, ltb→lt, lt→ltb}
+use lib.Dec.{T, eqb, eqb→eq, ltb→lt}
 use lib.Ieee.Fits.{and-i, and-l, and-r}
-use lib.ListN.{length, getD}
+use lib.ListN.{length}
 use Rattle.files.specs.Table.{Rule, Numbered, first, later}
-use Rattle.files.specs.Sets.{Has, hasb}
+use Rattle.files.specs.Sets.{hasb}
 use Rattle.documents.specs.Paths.{Context, contextOf}
 use Rattle.documents.proofs.Paths.{below-le, contextOf-context, context-is}
 use Rattle.reasoning.specs.Walk.{Reach, DeadBy, Dead}
 use Rattle.reasoning.specs.Reachable.{Fits, reachable, reachb}
-use Rattle.reasoning.specs.Least.{least}
-use Rattle.reasoning.specs.Decide.{
-  ruleAt, LeastDead, bothFrom, clashb, clashRule, clashes, deadPath, deadRule, isDead
-}
+use Rattle.reasoning.specs.Decide.{ruleAt, LeastDead, bothFrom, clashb, clashRule, clashes, deadPath, deadRule, isDead}
 use Rattle.reasoning.proofs.Walks.{numbered-lt, reach-start}
 use Rattle.reasoning.proofs.Reachable.{T-hasb, reachable-iff, reachb-iff, walk-in-table}
 use Rattle.reasoning.proofs.Least.{least-passes, least-least, least-some}
@@ -28,13 +24,6 @@ pub ruleAt-numbered : {rules : List Rule} {r : ℕ} {ru : Rule} → Numbered rul
 unfolding ruleAt
 ruleAt-numbered first = refl
 ruleAt-numbered (later n) = ruleAt-numbered n
-
--- a number below the number of rules is a rule's
-pub numbered-ruleAt : (rules : List Rule) (r : ℕ) → r < length rules → Numbered rules r (ruleAt rules r)
-unfolding ruleAt
-numbered-ruleAt [] r h = absurd (omega arith)
-numbered-ruleAt (ru ∷ rest) zero h = first
-numbered-ruleAt (ru ∷ rest) (suc r) h = later (numbered-ruleAt rest r (omega arith))
 
 -- what has kind 2 is a rule of the list
 absence-at : (rules : List Rule) (r : ℕ) → ruleAt rules r .kind ≡ 2 → Numbered rules r (ruleAt rules r)
@@ -127,7 +116,10 @@ module _ {parent : ℕ → ℕ} {rules : List Rule} {count : ℕ} (fits : Fits p
 
   clashb-iff : (y r : ℕ) → y < count → T (clashb parent rules count y r) ↔ Clash parent rules y r
   unfolding clashb bothFrom reachb
-  clashb-iff y r h = (λ t. to (absence-test rules r (λ ru. bothFrom parent rules count ru y) .0 t), λ d. absence-test rules r (λ ru. bothFrom parent rules count ru y) .1 (back d))
+  clashb-iff y r h = (
+    λ t. to (absence-test rules r (λ ru. bothFrom parent rules count ru y) .0 t),
+    λ d. absence-test rules r (λ ru. bothFrom parent rules count ru y) .1 (back d)
+  )
     where
       to : AbsenceWith rules r (λ ru. T (bothFrom parent rules count ru y)) → Clash parent rules y r
       to a =

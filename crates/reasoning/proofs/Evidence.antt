@@ -1,31 +1,24 @@
 -- Direct evidence, evidence for a dead path and for a pair: the computed numbers are those that are written, and the only ones.
-use Prim.Native.Nat.{ℕ, zero, suc, _+_, _≤_, _<_}
-use mathlib.Core.Path.{_≡_, refl, sym, ap, _∙_, subst}
-use mathlib.Core.Logic.{_⊎_, inl, inr, _↔_}
-use mathlib.Core.Bool.{Bool, true, false, _&&_, _||_}
-use mathlib.Core.List.{List, [], _∷_, _++_}
+use Prim.Native.Nat.{ℕ, _<_}
+use mathlib.Core.Path.{_≡_, refl, ap, _∙_}
+use mathlib.Core.List.{List, _∷_, _++_}
 use native.Mathlib.Omega.{arith}
-use lib.Dec.{T, eqb}
-use lib.Ieee.Fits.{and-i, and-l, and-r}
-use lib.ListN.{length}
 use Rattle.files.specs.Table.{Rule, Numbered}
-use Rattle.files.specs.Sets.{Has}
 use Rattle.documents.specs.Paths.{Context, contextOf}
-use Rattle.documents.proofs.Paths.{below-le, contextOf-context, context-is, context-unique}
-use Rattle.reasoning.specs.Walk.{Walk, Reach, DeadBy, Dead, PairBy}
+use Rattle.documents.proofs.Paths.{below-le, contextOf-context, context-is}
+use Rattle.reasoning.specs.Walk.{Reach, DeadBy, Dead}
 use Rattle.reasoning.specs.Written.{Written}
-use Rattle.reasoning.specs.Reachable.{Fits, reachb}
+use Rattle.reasoning.specs.Reachable.{Fits}
 use Rattle.reasoning.specs.Search.{writtenWalk}
 use Rattle.reasoning.specs.Decide
-use Rattle.reasoning.specs.Decide.{LeastDead, Sided, LeastPair, RootPair, LeastRootPair, LowestDead, deadPath, deadRule}
+use Rattle.reasoning.specs.Decide.{Sided, deadPath, deadRule}
 use Rattle.reasoning.specs.Evidence.{
   walkNumbers, DirectNumbers, DeadNumbers, Ends, straight, crossed, PairNumbers, WritesDead, directNumbers, deadNumbersBy, deadNumbers,
   firstSide, secondSide, pairNumbers
 }
-use Rattle.reasoning.proofs.Walks.{reach-start}
-use Rattle.reasoning.proofs.Reachable.{reachb-iff, walk-in-table}
+use Rattle.reasoning.proofs.Reachable.{walk-in-table}
 use Rattle.reasoning.proofs.Search.{writtenWalk-written, written-is}
-use Rattle.reasoning.proofs.Decide.{ruleAt-numbered, context-in-table, dead-least, least-dead-unique, isDead-iff}
+use Rattle.reasoning.proofs.Decide.{ruleAt-numbered, context-in-table, dead-least, least-dead-unique}
 
 module _ {parent : ℕ → ℕ} {rules : List Rule} {count : ℕ} (fits : Fits parent rules count) where
   -- a rule's context is a path of the table

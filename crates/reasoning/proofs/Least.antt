@@ -1,11 +1,10 @@
 -- The laws of the least number that passes a test.
 use Prim.Native.Nat.{ℕ, zero, suc, _+_, _≤_, _<_}
 use mathlib.Core.Path.{_≡_, refl}
-use mathlib.Core.Logic.{_↔_}
 use mathlib.Core.Bool.{Bool, true, false}
 use native.Mathlib.Omega.{arith}
 use native.Mathlib.Decide.{decLt, ℕ-discrete}
-use lib.Dec.{T, ltb, ltb→lt, lt→ltb}
+use lib.Dec.{T, ltb, lt→ltb}
 use Rattle.reasoning.specs.Least.{firstFrom, least}
 
 module _ (test : ℕ → Bool) where

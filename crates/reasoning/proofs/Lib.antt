@@ -13,6 +13,8 @@ pub mod RootPair
 pub mod Evidence
 pub mod Writes
 pub mod Shows
+pub mod EvidenceSize
+pub mod Answers
 pub mod Soundness
 pub mod Fill
 pub mod Kids

@@ -1,16 +1,14 @@
 -- The least move: where some step leads from x into a set, it is one with the least code.
-use Prim.Native.Nat.{ℕ, zero, suc, _+_, _*_, _≤_, _<_}
-use mathlib.Core.Path.{_≡_, refl, sym, ap, _∙_, subst}
-use mathlib.Core.Logic.{_⊎_, inl, inr, _↔_}
+use Prim.Native.Nat.{ℕ, suc, _+_, _*_, _≤_, _<_}
+use mathlib.Core.Path.{_≡_, refl, sym, _∙_}
 use mathlib.Core.Bool.{Bool, true, false, _&&_, and-eq-true-iff, true≢false}
 use mathlib.Core.List.{List, [], _∷_}
 use native.Mathlib.Omega.{arith}
 use lib.Dec.{eqb, ltb}
-use borrow.Author.Tests.{lt-ltb, ltb-true}
+use borrow.Author.Tests.{lt-ltb, ltb-true, eq-eqb, eqb-true}
 use Rattle.files.specs.Table.{Rule, Numbered, first, later}
 use Rattle.files.specs.Sets.{Has, hasb}
 use Rattle.files.proofs.SetBits.{hasb-true, hasb-has}
-use Rattle.documents.proofs.Paths.{eqb-true, eqb-false}
 use Rattle.reasoning.specs.Walk.{Step, climb, along, against}
 use Rattle.reasoning.specs.Reachable.{goesAlong, goesAgainst}
 use Rattle.reasoning.specs.Search.{Move, ruleMove, leastMove}
@@ -32,14 +30,7 @@ pub record Least (Steps : ℕ → ℕ → Type 0) (s : ℕ) (m : Move) : Type 0 
 
 -- three tests pass together
 tests : (a : Bool) (p q s y : ℕ) → a ≡ true → p ≡ q → Has s y → (a && eqb p q && hasb s y) ≡ true
-tests a p q s y h e m = rw (h, e, hasb-has s y m, eqb-same q)
-  where
-    eqb-same : (n : ℕ) → eqb n n ≡ true
-    eqb-same n = pick (eqb n n) refl
-      where
-        pick : (b : Bool) → eqb n n ≡ b → eqb n n ≡ true
-        pick true e = e
-        pick false e = absurd (eqb-false n n e refl)
+tests a p q s y h e m = rw (h, eq-eqb p q e, hasb-has s y m)
 
 record Tests (a : Bool) (p q s y : ℕ) : Type 0 where
   passes : a ≡ true

@@ -1,17 +1,17 @@
 -- The single step on words: a path is in `oneStep` of a set exactly if it was in it or some step leads to it from a member.
 use Prim.Native.Nat.{ℕ, zero, suc, _+_, _*_, _^_, _≤_, _<_}
-use mathlib.Core.Path.{_≡_, refl, sym, ap, _∙_, subst}
-use mathlib.Core.Logic.{_⊎_, inl, inr, _↔_}
+use mathlib.Core.Path.{_≡_, refl, sym, ap, _∙_}
+use mathlib.Core.Logic.{_⊎_, inl, inr}
 use mathlib.Core.Bool.{Bool, true, false, _&&_, and-eq-true-iff}
 use mathlib.Core.List.{List, [], _∷_}
 use native.Mathlib.Omega.{arith}
 use native.Mathlib.Nat.{le-refl, le-trans, eq-zero-or-pos}
 use native.Mathlib.Decide.{ℕ-discrete}
 use lib.Dec.{eqb}
+use borrow.Author.Tests.{eqb-true}
 use Rattle.files.specs.Table.{Rule, Numbered, first, later}
-use Rattle.files.specs.Sets.{Has, hasb, withPath}
+use Rattle.files.specs.Sets.{Has, hasb}
 use Rattle.files.proofs.SetBits.{has-with, has-under, hasb-true, hasb-has, with-ge, with-lt}
-use Rattle.documents.proofs.Paths.{eqb-true}
 use Rattle.reasoning.proofs.Walks.{numbered-lt}
 use Rattle.reasoning.specs.Walk.{Step, climb, along, against}
 use Rattle.reasoning.specs.Reachable.{

@@ -1,5 +1,5 @@
 -- A pair is computed to be excluded exactly if it is, with the least rule and side 0 preferred.
-use Prim.Native.Nat.{ℕ, _≤_, _<_}
+use Prim.Native.Nat.{ℕ, _<_}
 use mathlib.Core.Path.{_≡_, refl, sym, subst}
 use mathlib.Core.Logic.{_⊎_, inl, inr, _↔_}
 use mathlib.Core.Bool.{Bool, true, false, _&&_, _||_}
@@ -17,7 +17,7 @@ use Rattle.reasoning.specs.Reachable.{Fits, reachb}
 use Rattle.reasoning.specs.Decide.{Sided, straight, crossed, LeastPair, sidesFrom, pairb, pairRule, isPair, pairSide}
 use Rattle.reasoning.proofs.Walks.{numbered-lt}
 use Rattle.reasoning.proofs.Least.{least-passes, least-least, least-some}
-use Rattle.reasoning.proofs.Decide.{AbsenceWith, absence-test, Sides, sides-iff, in-context}
+use Rattle.reasoning.proofs.Decide.{AbsenceWith, absence-test, sides-iff, in-context}
 
 -- one of two tests
 pub either-iff : (a b : Bool) → T (a || b) ↔ (T a ⊎ T b)

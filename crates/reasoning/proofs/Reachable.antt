@@ -1,6 +1,6 @@
 -- The computed reachable set is exactly what is reachable.
 use Prim.Native.Nat.{ℕ, zero, suc, _+_, _-_, _^_, _≤_, _<_}
-use mathlib.Core.Path.{_≡_, refl, sym, ap, _∙_, subst}
+use mathlib.Core.Path.{_≡_, refl, sym, subst}
 use mathlib.Core.Logic.{_⊎_, inl, inr, _↔_, Iff·trans}
 use mathlib.Core.Bool.{Bool, true, false}
 use mathlib.Core.List.{List}
@@ -8,11 +8,12 @@ use native.Mathlib.Omega.{arith}
 use native.Mathlib.Nat.{add-zero}
 use native.Mathlib.Decide.{ℕ-discrete}
 use lib.Dec.{T, eqb, lit<}
+use borrow.Author.Tests.{eqb-true, eqb-false}
 use Rattle.files.specs.Table.{Rule}
 use Rattle.files.specs.Sets.{bit, Has, hasb, withPath}
-use Rattle.files.proofs.SetBits.{has-with, hasb-true, hasb-false, hasb-has, not-has, bit-of-zero, with-lt, bit-cases}
+use Rattle.files.proofs.SetBits.{has-with, hasb-true, hasb-false, hasb-has, not-has, bit-of-zero, with-lt}
 use Rattle.documents.specs.Paths.{Below, same, up, Descending}
-use Rattle.documents.proofs.Paths.{eqb-true, eqb-false, below-step, below-le, parent-le}
+use Rattle.documents.proofs.Paths.{below-step, below-le, parent-le}
 use Rattle.reasoning.specs.Walk.{Step, climb, along, against, Walk, stay, step, Reach}
 use Rattle.reasoning.specs.Reachable.{Fits, onward, joinChildren, subtree, oneStep, settle, alone, reachable, reachb}
 use Rattle.reasoning.proofs.Walks.{walk-start, reach-refl, reach-trans, reach-step, reach-start, reach-end}

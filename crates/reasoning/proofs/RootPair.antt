@@ -8,17 +8,17 @@ use native.Mathlib.Omega.{arith}
 use lib.Dec.{T, eqb, ltb, eqb→eq, ltb→lt, lt→ltb}
 use lib.Ieee.Fits.{and-i, and-l, and-r}
 use lib.ListN.{length}
-use Rattle.files.specs.Table.{Rule, Numbered}
-use Rattle.files.specs.Sets.{Has, hasb, withPath}
+use Rattle.files.specs.Table.{Rule}
+use Rattle.files.specs.Sets.{Has, hasb}
 use Rattle.files.proofs.SetBits.{has-with, not-has, bit-of-zero}
-use Rattle.documents.specs.Paths.{Below, same, Context, contextOf}
+use Rattle.documents.specs.Paths.{same, Context, contextOf}
 use Rattle.documents.proofs.Paths.{below-zero, contextOf-context, context-is}
 use Rattle.reasoning.specs.Walk.{Reach, Dead, PairBy}
 use Rattle.reasoning.specs.Required.{Needed, root, listed}
 use Rattle.reasoning.specs.Reachable.{Fits, reachb}
 use Rattle.reasoning.specs.Decide.{
-  ruleAt, RootPair, LeastRootPair, LowestDead, askedIn, reacher, rootSides, rootb, rootRule, isRootPair, rootFirst, rootSecond, isDead, deadAsked,
-  isAskedDead
+  RootPair, LeastRootPair, LowestDead, askedIn, reacher, rootSides, rootb, rootRule, isRootPair, rootFirst, rootSecond, isDead,
+  deadAsked, isAskedDead
 }
 use Rattle.reasoning.proofs.Walks.{numbered-lt}
 use Rattle.reasoning.proofs.Reachable.{T-hasb, reachb-iff}

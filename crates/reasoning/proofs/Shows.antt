@@ -1,8 +1,7 @@
 -- Evidence that a question allows shows its answer, and the evidence that is written is allowed.
 use Prim.Native.Nat.{ℕ, _<_}
-use mathlib.Core.Path.{_≡_, refl, sym, ap, subst}
+use mathlib.Core.Path.{_≡_, sym, subst}
 use mathlib.Core.Logic.{_⊎_, inl, inr}
-use mathlib.Core.Bool.{_&&_}
 use mathlib.Core.List.{List}
 use lib.Dec.{T}
 use lib.Ieee.Fits.{and-i}
@@ -10,20 +9,17 @@ use Rattle.files.specs.Table.{Rule}
 use Rattle.files.specs.Sets.{Has}
 use Rattle.documents.specs.Paths.{Below, Context, contextOf, Descending}
 use Rattle.documents.proofs.Paths.{context-is, context-unique}
-use Rattle.reasoning.specs.Walk.{Walk, Reach, DeadBy, Dead, PairBy, Pair}
+use Rattle.reasoning.specs.Walk.{Walk, Reach, Dead, PairBy, Pair}
 use Rattle.reasoning.specs.Walk
 use Rattle.reasoning.specs.Written.{Written}
 use Rattle.reasoning.specs.Reachable.{Fits}
 use Rattle.reasoning.specs.Decide.{RootPair}
 use Rattle.reasoning.specs.Evidence.{
-  DirectNumbers, DeadNumbers, Ends, straight, crossed, PairNumbers, ShowsDead, ShowsPair, ShowsImplication, ShowsAbsence, ShowsBoth, Shows,
-  ShowsInconsistent, WritesDead, WritesImplication, WritesAbsence, WritesBoth, Writes, WritesInconsistent, yesb, impliesb, excludesb,
-  consistentb, evidenceNumbers, inconsistentNumbers
+  Ends, straight, crossed, PairNumbers, ShowsDead, ShowsPair, ShowsImplication, ShowsAbsence, Shows, ShowsInconsistent, WritesDead,
+  WritesImplication, WritesAbsence, Writes, WritesInconsistent, yesb, impliesb, consistentb, evidenceNumbers
 }
 use Rattle.reasoning.proofs.Walks.{numbered-unique, walk-start}
-use Rattle.reasoning.proofs.Writes.{
-  implies-iff, excludes-iff, consistent-iff, evidence-written, inconsistent-written
-}
+use Rattle.reasoning.proofs.Writes.{implies-iff, excludes-iff, consistent-iff, evidence-written}
 
 module _ {parent : ℕ → ℕ} {rules : List Rule} where
   -- ---- what evidence shows

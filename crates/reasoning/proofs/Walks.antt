@@ -1,12 +1,11 @@
 -- The laws of steps, walks and reachable: determined by the code, joined, taken apart, moved to a prefix.
-use Prim.Native.Nat.{ℕ, suc, _+_, _*_, _<_}
+use Prim.Native.Nat.{ℕ, _<_}
 use mathlib.Core.Path.{_≡_, refl, sym, ap, _∙_, subst}
-use mathlib.Core.Logic.{_⊎_}
 use mathlib.Core.List.{List, [], _∷_, _++_}
 use native.Mathlib.Omega.{arith}
 use lib.ListN.{length}
 use Rattle.files.specs.Table.{Rule, Numbered, first, later}
-use Rattle.documents.specs.Paths.{Below, same, up, Descending}
+use Rattle.documents.specs.Paths.{Below}
 use Rattle.documents.proofs.Paths.{below-trans}
 use Rattle.reasoning.specs.Walk.{Step, climb, along, against, Walk, stay, step, Reach}
 

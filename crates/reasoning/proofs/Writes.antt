@@ -1,27 +1,26 @@
 -- The evidence computed for a question answered yes, and for an inconsistent set, is the one that is written, and the only one.
 use Prim.Native.Nat.{ℕ, _<_}
 use mathlib.Core.Path.{_≡_, refl, sym, ap₂, _∙_, subst}
-use mathlib.Core.Logic.{_⊎_, inl, inr, _↔_, Iff·trans}
-use mathlib.Core.Bool.{Bool, true, false, not, _&&_, _||_}
+use mathlib.Core.Logic.{_⊎_, inl, inr, _↔_}
+use mathlib.Core.Bool.{Bool, true, false, _&&_, _||_}
 use mathlib.Core.List.{List, _++_}
 use native.Mathlib.Omega.{arith}
 use lib.Dec.{T}
 use lib.Ieee.Fits.{and-l, and-r}
 use Rattle.files.specs.Table.{Rule}
 use Rattle.files.specs.Sets.{Has}
-use Rattle.documents.specs.Paths.{Context, contextOf}
+use Rattle.documents.specs.Paths.{contextOf}
 use Rattle.documents.proofs.Paths.{contextOf-context, context-is}
-use Rattle.reasoning.specs.Walk.{Reach, Dead, PairBy, Pair}
+use Rattle.reasoning.specs.Walk.{Reach, Dead, Pair}
 use Rattle.reasoning.specs.Walk
 use Rattle.reasoning.specs.Reachable.{Fits, reachb}
 use Rattle.reasoning.specs.Decide.{
-  Sided, LeastPair, RootPair, LeastRootPair, LowestDead, isDead, pairRule, pairSide, isPair, isRootPair, rootRule, rootFirst, rootSecond,
-  deadAsked, isAskedDead
+  Sided, LeastPair, RootPair, isDead, pairRule, pairSide, isPair, isRootPair, rootRule, rootFirst, rootSecond, deadAsked, isAskedDead
 }
 use Rattle.reasoning.specs.Decide
 use Rattle.reasoning.specs.Evidence.{
-  WritesDead, WritesImplication, WritesAbsence, WritesBoth, Writes, WritesInconsistent, impliesb, excludesb, yesb, consistentb,
-  pairNumbers, implicationNumbers, absenceNumbers, evidenceNumbers, inconsistentNumbers
+  WritesDead, WritesImplication, WritesAbsence, Writes, WritesInconsistent, impliesb, excludesb, yesb, consistentb, pairNumbers,
+  implicationNumbers, absenceNumbers, evidenceNumbers, inconsistentNumbers
 }
 use Rattle.reasoning.specs.Evidence
 use Rattle.reasoning.proofs.Reachable.{reachb-iff}

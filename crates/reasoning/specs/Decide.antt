@@ -1,6 +1,5 @@
 -- Dead paths, pairs and the root pair, computed from reachable sets, and what it means that a choice is the least.
 use Prim.Native.Nat.{ℕ, _≤_}
-use mathlib.Core.Path.{_≡_}
 use mathlib.Core.Logic.{_⊎_}
 use mathlib.Core.Bool.{Bool, true, false, _&&_, _||_}
 use mathlib.Core.List.{List, [], _∷_}

@@ -1,9 +1,8 @@
 -- Evidence: what its numbers may be for a question, which of them are written, and the numbers computed.
-use Prim.Native.Nat.{ℕ}
+use Prim.Native.Nat.{ℕ, _≤_}
 use mathlib.Core.Path.{_≡_}
-use mathlib.Core.Logic.{_⊎_}
 use mathlib.Core.Bool.{Bool, true, false, not, _&&_, _||_}
-use mathlib.Core.List.{List, _∷_, _++_}
+use mathlib.Core.List.{List, _∷_, _++_, List·Memᴰ}
 use lib.Dec.{eqb}
 use lib.ListN.{length}
 use Rattle.files.specs.Table.{Rule, Numbered}
@@ -155,6 +154,11 @@ pub data WritesInconsistent (parent : ℕ → ℕ) (rules : List Rule) (asked : 
     → WritesInconsistent parent rules asked numbers
   dead : ((x y r : ℕ) → RootPair parent rules asked x y r → ⊥) → (x : ℕ) → LowestDead parent rules asked x
     → WritesDead parent rules x numbers → WritesInconsistent parent rules asked numbers
+
+-- at most n numbers, each at most 512: such a number takes at most two bytes, so all of them at most 2 n
+pub record Bounded (n : ℕ) (numbers : List ℕ) : Type 0 where
+  pub few : length numbers ≤ n
+  pub small : (k : ℕ) → List·Memᴰ k numbers → k ≤ 512
 
 -- ---- the answers and the numbers, computed
 
