@@ -39,53 +39,59 @@ module _ {parent : ℕ → ℕ} {rules : List Rule} {count : ℕ} (fits : Fits p
     pub implies-every : T (impliesb parent rules count p q) ↔ Implied parent rules count p q
     implies-every =
         Iff·trans (implies-iff fits p q first second) (Iff·symm
-          (implication-exactly (fits .descending) (fits .rulesIn) reach-decides first (contextOf-context (fits .descending) p q)
-            (decided (reachb parent rules count (contextOf parent p q) p q)
-              (reachb-iff fits (contextOf parent p q) p (meets-in-table fits p q first) first q))
-            (decided (isDead parent rules count p) (isDead-iff fits p first))))
+        (implication-exactly (fits .descending) (fits .rulesIn) reach-decides first (contextOf-context (fits .descending) p q)
+        (decided (reachb parent rules count (contextOf parent p q) p q)
+        (reachb-iff fits (contextOf parent p q) p (meets-in-table fits p q first) first q))
+        (decided (isDead parent rules count p) (isDead-iff fits p first))))
 
     -- an absence is answered yes exactly if it holds in every document that obeys the rules
     pub excludes-every : T (excludesb parent rules count p q) ↔ Excluded parent rules count p q
     excludes-every =
         Iff·trans (excludes-iff fits p q first second) (Iff·symm
-          (absence-exactly (fits .descending) (fits .rulesIn) reach-decides first second (contextOf-context (fits .descending) p q)
-            (decided (excludesb parent rules count p q) (excludes-iff fits p q first second))))
+        (absence-exactly (fits .descending) (fits .rulesIn) reach-decides first second (contextOf-context (fits .descending) p q)
+        (decided (excludesb parent rules count p q) (excludes-iff fits p q first second))))
 
   -- a co-occurrence is answered yes exactly if it holds in every document that obeys the rules
   pub together-every : (p q : ℕ) → p < count → q < count
-    → T (impliesb parent rules count p q && impliesb parent rules count q p) ↔ Together parent rules count p q
+      → T (impliesb parent rules count p q && impliesb parent rules count q p) ↔ Together parent rules count p q
   together-every p q h k = (
     λ t. record {
       along = implies-every p q h k .0 (and-l (impliesb parent rules count p q) (impliesb parent rules count q p) t);
-      against = implies-every q p k h .0 (and-r (impliesb parent rules count p q) (impliesb parent rules count q p) t)
+      against = implies-every q p k h .0 (and-r (impliesb parent rules count p q) (impliesb parent rules count q p) t);
     },
     λ s. and-i (impliesb parent rules count p q) (impliesb parent rules count q p)
-      (implies-every p q h k .1 (s .along)) (implies-every q p k h .1 (s .against))
+        (implies-every p q h k .1 (s .along)) (implies-every q p k h .1 (s .against)),
   )
 
   -- the rules are computed to be consistent with the required paths exactly if some document that obeys them holds these
   pub consistent-some : (required : List ℕ) → 0 < count → ((x : ℕ) → List·Memᴰ x required → x < count)
-    → T (consistentb parent rules count (askedIn required)) ↔ Consistent parent rules count required
+      → T (consistentb parent rules count (askedIn required)) ↔ Consistent parent rules count required
   consistent-some required z inTable =
       Iff·trans (consistent-iff fits (askedIn required) z asked-in)
-        (Iff·trans (to-free, from-free) (Iff·symm (consistent-exactly (fits .descending) (fits .rulesIn) reach-decides z inTable)))
+      (Iff·trans (to-free, from-free) (Iff·symm (consistent-exactly (fits .descending) (fits .rulesIn) reach-decides z inTable)))
     where
       needed : (x : ℕ) → Has (askedIn required) x ↔ Needed required x
       needed = askedIn-iff required (λ x m. omega (arith, inTable x m, fits .few))
+
       needed-in : (x : ℕ) → Needed required x → x < count
       needed-in x (root e) = omega arith
       needed-in x (listed m) = inTable x m
+
       asked-in : (x : ℕ) → Has (askedIn required) x → x < count
       asked-in x h = needed-in x (needed x .0 h)
+
       Free : Type 0
       Free =
-          ((x y r : ℕ) → RootPair parent rules (askedIn required) x y r → ⊥) × ((x : ℕ) → Has (askedIn required) x → Dead parent rules x → ⊥)
+          ((x y r : ℕ) → RootPair parent rules (askedIn required) x y r → ⊥)
+          × ((x : ℕ) → Has (askedIn required) x → Dead parent rules x → ⊥)
+
       to-free : Free → Conflict parent rules required → ⊥
       to-free f (pair {first} {second} r h k d) =
           f .0 first second r (record { first = needed first .1 h; second = needed second .1 k; by = d })
       to-free f (dead {p} h d) = f .1 p (needed p .1 h) d
+
       from-free : (Conflict parent rules required → ⊥) → Free
       from-free n = (
         λ x y r d. n (pair r (needed x .0 (d .first)) (needed y .0 (d .second)) (d .by)),
-        λ x h d. n (dead (needed x .0 h) d)
+        λ x h d. n (dead (needed x .0 h) d),
       )

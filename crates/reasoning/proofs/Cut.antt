@@ -24,9 +24,9 @@ pub record Shortest (parent : ℕ → ℕ) (rules : List Rule) (c x : ℕ) (n y 
 
 -- a written walk has the fewest steps
 pub written-shortest : {parent : ℕ → ℕ} {rules : List Rule} {c x y : ℕ} {codes : List ℕ} → Written parent rules c x codes y
-  → Shortest parent rules c x (length codes) y
+    → Shortest parent rules c x (length codes) y
 written-shortest {codes = codes} w = record {
-  none-shorter = λ others v. pick (decLe (length codes) (length others)) (w .least others v)
+  none-shorter = λ others v. pick (decLe (length codes) (length others)) (w .least others v);
 }
   where
     pick : {others : List ℕ} → Dec (length codes ≤ length others) → (Before others codes → ⊥) → length codes ≤ length others
@@ -49,11 +49,12 @@ size-under w n l h =
 
 -- a walk that comes back to z can leave out what lies between
 pub walk-cut : {parent : ℕ → ℕ} {rules : List Rule} {c x y z code : ℕ} {front between back : List ℕ}
-  → Walk parent rules c x front z → Walk parent rules c z (code ∷ between) z → Walk parent rules c z back y
-  → Walk parent rules c x (front ++ back) y × (length (front ++ back) < length (front ++ ((code ∷ between) ++ back)))
-walk-cut {code = code} {front = front} {between = between} {back = back} v loop w =
-    (walk-append v w,
-      omega (arith, length-append front back, length-append front ((code ∷ between) ++ back), length-append between back))
+    → Walk parent rules c x front z → Walk parent rules c z (code ∷ between) z → Walk parent rules c z back y
+    → Walk parent rules c x (front ++ back) y × (length (front ++ back) < length (front ++ ((code ∷ between) ++ back)))
+walk-cut {code = code} {front = front} {between = between} {back = back} v loop w = (
+  walk-append v w,
+  omega (arith, length-append front back, length-append front ((code ∷ between) ++ back), length-append between back),
+)
 
 -- the set of the paths that a walk of n steps to y visits: from each of them a walk of at most n steps leads to y
 record Visits (parent : ℕ → ℕ) (rules : List Rule) (c count n y s : ℕ) : Type 0 where
@@ -66,48 +67,53 @@ module _ {parent : ℕ → ℕ} {rules : List Rule} {count : ℕ} (fits : Fits p
   single {c} {y} h b = record {
     many = omega (arith, size-with 0 y low (bit-of-zero y), size-of-zero);
     under = λ z k. under-at z (has-with 0 y z low .0 k);
-    near = λ z k. near-at z (has-with 0 y z low .0 k)
+    near = λ z k. near-at z (has-with 0 y z low .0 k);
   }
     where
       low : y < 64
       low = omega (arith, fits .few)
+
       under-at : (z : ℕ) → (z ≡ y) ⊎ Has 0 z → z < count
       under-at z (inl e) = omega arith
       under-at z (inr k) = absurd (not-has (bit-of-zero z) k)
+
       near-at : (z : ℕ) → (z ≡ y) ⊎ Has 0 z → (codes : List ℕ) × Walk parent rules c z codes y × (length codes ≤ 0)
       near-at z (inl e) = ([], subst (λ (v : ℕ). Walk parent rules c v [] y) (sym e) (stay b), omega arith)
       near-at z (inr k) = absurd (not-has (bit-of-zero z) k)
 
   one-more : {c x y s : ℕ} {codes : List ℕ} → x < count → Walk parent rules c x codes y → Shortest parent rules c x (length codes) y
-    → {n : ℕ} → length codes ≡ suc n → Visits parent rules c count n y s → Visits parent rules c count (suc n) y (withPath s x)
+      → {n : ℕ} → length codes ≡ suc n → Visits parent rules c count n y s → Visits parent rules c count (suc n) y (withPath s x)
   one-more {c} {x} {y} {s} {codes} h w short {n} e v = record {
     many = omega (arith, size-with s x low (bit-absent s x fresh), v .many);
     under = λ z k. under-at z (has-with s x z low .0 k);
-    near = λ z k. near-at z (has-with s x z low .0 k)
+    near = λ z k. near-at z (has-with s x z low .0 k);
   }
     where
       low : x < 64
       low = omega (arith, fits .few)
+
       fresh : Has s x → ⊥
       fresh k = let a = v .near x k in omega (arith, short .none-shorter (a .0) (a .1), a .2)
+
       under-at : (z : ℕ) → (z ≡ x) ⊎ Has s z → z < count
       under-at z (inl p) = omega arith
       under-at z (inr k) = v .under z k
+
       near-at : (z : ℕ) → (z ≡ x) ⊎ Has s z → (codes : List ℕ) × Walk parent rules c z codes y × (length codes ≤ suc n)
       near-at z (inl p) = (codes, subst (λ (a : ℕ). Walk parent rules c a codes y) (sym p) w, omega arith)
       near-at z (inr k) = let a = v .near z k in (a .0, a .1, omega (arith, a .2))
 
   visits : {c x y : ℕ} {codes : List ℕ} → x < count → Walk parent rules c x codes y → Shortest parent rules c x (length codes) y
-    → (s : ℕ) × Visits parent rules c count (length codes) y s
+      → (s : ℕ) × Visits parent rules c count (length codes) y s
   visits {x = x} h (stay b) short = (withPath 0 x, single h b)
   visits {c} {x} {y} h (step {y = z} {code = code} {codes = codes} b st w) short =
       let rest = visits (step-in-table fits h st) w
-        (record { none-shorter = λ others v. let l = short .none-shorter (code ∷ others) (step b st v) in omega arith }) in
+      (record { none-shorter = λ others v. let l = short .none-shorter (code ∷ others) (step b st v) in omega arith }) in
       (withPath (rest .0) x, one-more h (step b st w) short refl (rest .1))
 
   -- the shortest walk has fewer steps than the table has paths
   pub shortest-bound : {c x y : ℕ} {codes : List ℕ} → x < count → Walk parent rules c x codes y
-    → Shortest parent rules c x (length codes) y → length codes < count
+      → Shortest parent rules c x (length codes) y → length codes < count
   shortest-bound h w short =
       let v = visits h w short in omega (arith, size-under (v .0) count (fits .few) (v .1 .under), v .1 .many)
 

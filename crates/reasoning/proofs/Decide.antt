@@ -41,16 +41,19 @@ pub record AbsenceWith (rules : List Rule) (r : ℕ) (P : Rule → Type 0) : Typ
 
 -- the test of an absence by its number
 pub absence-test : (rules : List Rule) (r : ℕ) (X : Rule → Bool)
-  → T (eqb (ruleAt rules r .kind) 2 && X (ruleAt rules r)) ↔ AbsenceWith rules r (λ ru. T (X ru))
+    → T (eqb (ruleAt rules r .kind) 2 && X (ruleAt rules r)) ↔ AbsenceWith rules r (λ ru. T (X ru))
 absence-test rules r X = (to, back)
   where
     to : T (eqb (ruleAt rules r .kind) 2 && X (ruleAt rules r)) → AbsenceWith rules r (λ ru. T (X ru))
     to t =
         let e = eqb→eq (ruleAt rules r .kind) 2 (and-l (eqb (ruleAt rules r .kind) 2) (X (ruleAt rules r)) t) in
         record {
-          ru = ruleAt rules r; rule = absence-at rules r e; absence = e;
-          holds = and-r (eqb (ruleAt rules r .kind) 2) (X (ruleAt rules r)) t
+          ru = ruleAt rules r;
+          rule = absence-at rules r e;
+          absence = e;
+          holds = and-r (eqb (ruleAt rules r .kind) 2) (X (ruleAt rules r)) t;
         }
+
     back : AbsenceWith rules r (λ ru. T (X ru)) → T (eqb (ruleAt rules r .kind) 2 && X (ruleAt rules r))
     back a = rw (ruleAt-numbered (a .rule)) (and-i (eqb (a .ru .kind) 2) (X (a .ru)) (rw (a .absence) tt) (a .holds))
 
@@ -71,43 +74,63 @@ pub record Sides (parent : ℕ → ℕ) (rules : List Rule) (ru : Rule) (p q : �
 
 -- there is one least showing
 pub least-dead-unique : {parent : ℕ → ℕ} {rules : List Rule} {p y z r s : ℕ} → LeastDead parent rules p y r
-  → LeastDead parent rules p z s → (y ≡ z) × (r ≡ s)
+    → LeastDead parent rules p z s → (y ≡ z) × (r ≡ s)
 least-dead-unique {parent} {rules} {p} {y} {z} {r} {s} a b =
-    let e : y ≡ z = omega (arith, a .leastPath z s (b .by), b .leastPath y r (a .by)) in
-    (e, omega (arith, a .leastRule s (subst (λ (v : ℕ). DeadBy parent rules p v s) (sym e) (b .by)),
-      b .leastRule r (subst (λ (v : ℕ). DeadBy parent rules p v r) e (a .by))))
+    let e : y ≡ z = omega (arith, a .leastPath z s (b .by), b .leastPath y r (a .by)) in (
+      e,
+      omega (
+        arith,
+        a .leastRule s (subst (λ (v : ℕ). DeadBy parent rules p v s) (sym e) (b .by)),
+        b .leastRule r (subst (λ (v : ℕ). DeadBy parent rules p v r) e (a .by)),
+      ),
+    )
 
 module _ {parent : ℕ → ℕ} {rules : List Rule} {count : ℕ} (fits : Fits parent rules count) where
   -- a rule's context is a path of the table
   pub context-in-table : (r : ℕ) (ru : Rule) → Numbered rules r ru → contextOf parent (ru .left) (ru .right) < count
   context-in-table r ru n =
-      omega (arith, fits .rulesIn .left r ru n, below-le (fits .descending) (contextOf-context (fits .descending) (ru .left) (ru .right) .left))
+      let above = contextOf-context (fits .descending) (ru .left) (ru .right) .left in
+      omega (arith, fits .rulesIn .left r ru n, below-le (fits .descending) above)
 
   dead-clash : {p y r : ℕ} → DeadBy parent rules p y r → Clash parent rules y r
   dead-clash d = record {
-    ru = d .ru; rule = d .rule; absence = d .absence; context = d .context; isContext = d .isContext; left = d .left; right = d .right
+    ru = d .ru;
+    rule = d .rule;
+    absence = d .absence;
+    context = d .context;
+    isContext = d .isContext;
+    left = d .left;
+    right = d .right;
   }
 
   clash-dead : {p y r : ℕ} → Reach parent rules 0 p y → Clash parent rules y r → DeadBy parent rules p y r
   clash-dead a d = record {
-    ru = d .ru; rule = d .rule; absence = d .absence; context = d .context; isContext = d .isContext;
-    prefix = reach-start (d .left); here = a; left = d .left; right = d .right
+    ru = d .ru;
+    rule = d .rule;
+    absence = d .absence;
+    context = d .context;
+    isContext = d .isContext;
+    prefix = reach-start (d .left);
+    here = a;
+    left = d .left;
+    right = d .right;
   }
 
   pub sides-iff : (r : ℕ) (ru : Rule) → Numbered rules r ru → (p q : ℕ) → p < count → q < count
-    → T (reachb parent rules count (contextOf parent (ru .left) (ru .right)) p (ru .left)
-        && reachb parent rules count (contextOf parent (ru .left) (ru .right)) q (ru .right)) ↔ Sides parent rules ru p q
+      → T (reachb parent rules count (contextOf parent (ru .left) (ru .right)) p (ru .left)
+      && reachb parent rules count (contextOf parent (ru .left) (ru .right)) q (ru .right)) ↔ Sides parent rules ru p q
   sides-iff r ru n p q h k =
       let a = contextOf parent (ru .left) (ru .right) in
       let inTable = context-in-table r ru n in
       let left = reachb parent rules count a p (ru .left) in
-      let right = reachb parent rules count a q (ru .right) in
-      (
+      let right = reachb parent rules count a q (ru .right) in (
         λ t. record {
           left = reachb-iff fits a p inTable h (ru .left) .0 (and-l left right t);
-          right = reachb-iff fits a q inTable k (ru .right) .0 (and-r left right t)
+          right = reachb-iff fits a q inTable k (ru .right) .0 (and-r left right t);
         },
-        λ s. and-i left right (reachb-iff fits a p inTable h (ru .left) .1 (s .left)) (reachb-iff fits a q inTable k (ru .right) .1 (s .right))
+        λ s. and-i left right
+            (reachb-iff fits a p inTable h (ru .left) .1 (s .left))
+            (reachb-iff fits a q inTable k (ru .right) .1 (s .right)),
       )
 
   -- reached inside whatever is the context is reached inside the computed one
@@ -118,23 +141,29 @@ module _ {parent : ℕ → ℕ} {rules : List Rule} {count : ℕ} (fits : Fits p
   unfolding clashb bothFrom reachb
   clashb-iff y r h = (
     λ t. to (absence-test rules r (λ ru. bothFrom parent rules count ru y) .0 t),
-    λ d. absence-test rules r (λ ru. bothFrom parent rules count ru y) .1 (back d)
+    λ d. absence-test rules r (λ ru. bothFrom parent rules count ru y) .1 (back d),
   )
     where
       to : AbsenceWith rules r (λ ru. T (bothFrom parent rules count ru y)) → Clash parent rules y r
       to a =
           let s = sides-iff r (a .ru) (a .rule) y y h h .0 (a .holds) in
           record {
-            ru = a .ru; rule = a .rule; absence = a .absence;
+            ru = a .ru;
+            rule = a .rule;
+            absence = a .absence;
             context = contextOf parent (a .ru .left) (a .ru .right);
             isContext = contextOf-context (fits .descending) (a .ru .left) (a .ru .right);
-            left = s .left; right = s .right
+            left = s .left;
+            right = s .right;
           }
+
       back : Clash parent rules y r → AbsenceWith rules r (λ ru. T (bothFrom parent rules count ru y))
       back d = record {
-        ru = d .ru; rule = d .rule; absence = d .absence;
+        ru = d .ru;
+        rule = d .rule;
+        absence = d .absence;
         holds = sides-iff r (d .ru) (d .rule) y y h h .1
-          (record { left = in-context (d .isContext) (d .left); right = in-context (d .isContext) (d .right) })
+            (record { left = in-context (d .isContext) (d .left); right = in-context (d .isContext) (d .right) });
       }
 
   some-clash : (y r : ℕ) → y < count → Clash parent rules y r → T (clashes parent rules count y)
@@ -146,7 +175,7 @@ module _ {parent : ℕ → ℕ} {rules : List Rule} {count : ℕ} (fits : Fits p
   unfolding clashes clashRule
   least-clash y h t =
       clashb-iff y (clashRule parent rules count y) h .0
-        (least-passes (clashb parent rules count y) (length rules) (ltb→lt (clashRule parent rules count y) (length rules) t))
+      (least-passes (clashb parent rules count y) (length rules) (ltb→lt (clashRule parent rules count y) (length rules) t))
 
   clash-least : (y r : ℕ) → y < count → Clash parent rules y r → clashRule parent rules count y ≤ r
   unfolding clashRule
@@ -163,12 +192,11 @@ module _ {parent : ℕ → ℕ} {rules : List Rule} {count : ℕ} (fits : Fits p
     dead-test-iff : (y : ℕ) → T (deadTest y) ↔ (Reach parent rules 0 p y × T (clashes parent rules count y))
     unfolding deadTest
     dead-test-iff y =
-        let s = reachable parent rules count 0 p in
+        let here = hasb (reachable parent rules count 0 p) y in
+        let clash = clashes parent rules count y in
         let is = reachable-iff fits 0 p root-in-table given y in
-        (
-          λ t. (is .0 (T-hasb s y .0 (and-l (hasb s y) (clashes parent rules count y) t)), and-r (hasb s y) (clashes parent rules count y) t),
-          λ d. and-i (hasb s y) (clashes parent rules count y) (T-hasb s y .1 (is .1 (d .0))) (d .1)
-        )
+        let member = T-hasb (reachable parent rules count 0 p) y in
+        (λ t. (is .0 (member .0 (and-l here clash t)), and-r here clash t), λ d. and-i here clash (member .1 (is .1 (d .0))) (d .1))
 
     by-test : (y r : ℕ) → DeadBy parent rules p y r → T (deadTest y)
     by-test y r d =
@@ -176,7 +204,7 @@ module _ {parent : ℕ → ℕ} {rules : List Rule} {count : ℕ} (fits : Fits p
 
     -- a path shown dead has its least showing, as computed
     pub dead-least : (y r : ℕ) → DeadBy parent rules p y r
-      → LeastDead parent rules p (deadPath parent rules count p) (deadRule parent rules count p)
+        → LeastDead parent rules p (deadPath parent rules count p) (deadRule parent rules count p)
     unfolding deadPath deadRule deadTest
     dead-least y r d =
         let low = least-least deadTest count y (by-test y r d) in
@@ -186,7 +214,7 @@ module _ {parent : ℕ → ℕ} {rules : List Rule} {count : ℕ} (fits : Fits p
         record {
           by = clash-dead (found .0) (least-clash (deadPath parent rules count p) under (found .1));
           leastPath = λ z s e. least-least deadTest count z (by-test z s e);
-          leastRule = λ s e. clash-least (deadPath parent rules count p) s under (dead-clash e)
+          leastRule = λ s e. clash-least (deadPath parent rules count p) s under (dead-clash e);
         }
 
     -- the test decides dead
@@ -196,6 +224,7 @@ module _ {parent : ℕ → ℕ} {rules : List Rule} {count : ℕ} (fits : Fits p
       where
         back : Dead parent rules p → T (isDead parent rules count p)
         back d = least-some deadTest count (d .y) (walk-in-table fits given (d .by .here .walk)) (by-test (d .y) (d .r) (d .by))
+
         to : T (isDead parent rules count p) → Dead parent rules p
         to t =
             let under = ltb→lt (deadPath parent rules count p) count t in
@@ -203,5 +232,5 @@ module _ {parent : ℕ → ℕ} {rules : List Rule} {count : ℕ} (fits : Fits p
             record {
               y = deadPath parent rules count p;
               r = clashRule parent rules count (deadPath parent rules count p);
-              by = clash-dead (found .0) (least-clash (deadPath parent rules count p) under (found .1))
+              by = clash-dead (found .0) (least-clash (deadPath parent rules count p) under (found .1));
             }

@@ -11,8 +11,18 @@ use Rattle.reasoning.specs.Walk.{Step, climb, along, against, Walk, stay
 use Rattle.reasoning.specs.Written.{Written}
 use Rattle.reasoning.specs.Reachable.{Fits}
 use Rattle.reasoning.specs.Evidence.{
-  walkNumbers, DirectNumbers, DeadNumbers, Ends, straight, crossed, PairNumbers, WritesImplication, WritesAbsence, Writes,
-  WritesInconsistent, Bounded
+  walkNumbers,
+  DirectNumbers,
+  DeadNumbers,
+  Ends,
+  straight,
+  crossed,
+  PairNumbers,
+  WritesImplication,
+  WritesAbsence,
+  Writes,
+  WritesInconsistent,
+  Bounded,
 }
 use Rattle.reasoning.proofs.Walks.{numbered-lt}
 use Rattle.reasoning.proofs.Reachable.{walk-in-table}
@@ -31,7 +41,7 @@ bounded-cons {n} {k} {l} h b = record { few = omega (arith, b .few); small = λ 
 bounded-append : {n m : ℕ} {s t : List ℕ} → Bounded n s → Bounded m t → Bounded (n + m) (s ++ t)
 bounded-append {n} {m} {s} {t} a b = record {
   few = omega (arith, length-append s t, a .few, b .few);
-  small = λ j k. pick j (List·Memᴰ·append-cases s k)
+  small = λ j k. pick j (List·Memᴰ·append-cases s k);
 }
   where
     pick : (j : ℕ) → List·Memᴰ j s ⊎ List·Memᴰ j t → j ≤ 512
@@ -60,23 +70,23 @@ module _ {parent : ℕ → ℕ} {rules : List Rule} {count : ℕ} (fits : Fits p
   direct-bounded h d = rw (d .are) (bounded-cons (omega arith) (walk-bounded h (d .walk)))
 
   dead-bounded : {p y r : ℕ} {numbers : List ℕ} → p < count → DeadNumbers parent rules (Written parent rules) p y r numbers
-    → Bounded 196 numbers
+      → Bounded 196 numbers
   dead-bounded {p} {y} {r} h d =
       let k : y < count = walk-in-table fits h (d .here .walk) in
       let small : p ≤ 512 = omega (arith, fits .few) in
       let goal : y ≤ 512 = omega (arith, fits .few) in
       let rule : r ≤ 512 = omega (arith, numbered-lt (d .rule), fits .fewRules) in
       rw (d .are) (bounded-cons (omega arith) (bounded-cons small (bounded-cons goal (bounded-cons rule
-        (bounded-append (walk-bounded h (d .here)) (bounded-append (walk-bounded k (d .left)) (walk-bounded k (d .right))))))))
+      (bounded-append (walk-bounded h (d .here)) (bounded-append (walk-bounded k (d .left)) (walk-bounded k (d .right))))))))
 
   pair-bounded : {x y r side : ℕ} {numbers : List ℕ} → x < count → y < count
-    → PairNumbers parent rules (Written parent rules) x y r side numbers → Bounded 133 numbers
+      → PairNumbers parent rules (Written parent rules) x y r side numbers → Bounded 133 numbers
   pair-bounded {x} {y} {r} {side} h k d =
       let first : x ≤ 512 = omega (arith, fits .few) in
       let second : y ≤ 512 = omega (arith, fits .few) in
       let rule : r ≤ 512 = omega (arith, numbered-lt (d .rule), fits .fewRules) in
       rw (d .are) (bounded-cons (omega arith) (bounded-cons first (bounded-cons second (bounded-cons rule (bounded-cons (at-most (d .ends))
-        (bounded-append (walk-bounded h (d .first)) (walk-bounded k (d .second))))))))
+      (bounded-append (walk-bounded h (d .first)) (walk-bounded k (d .second))))))))
     where
       at-most : {ru : Rule} {s u v : ℕ} → Ends ru s u v → s ≤ 512
       at-most straight = omega arith
@@ -93,7 +103,7 @@ module _ {parent : ℕ → ℕ} {rules : List Rule} {count : ℕ} (fits : Fits p
 
   -- the evidence for a question has at most 392 numbers
   pub evidence-bounded : {kind p q : ℕ} {numbers : List ℕ} → p < count → q < count → Writes parent rules kind p q numbers
-    → Bounded 392 numbers
+      → Bounded 392 numbers
   evidence-bounded h k (Writes.implication e w) = bounded-more (omega arith) (implication-bounded h w)
   evidence-bounded h k (Writes.absence e w) = bounded-more (omega arith) (absence-bounded h k w)
   evidence-bounded h k (Writes.coOccurrence e w) =
@@ -101,7 +111,7 @@ module _ {parent : ℕ → ℕ} {rules : List Rule} {count : ℕ} (fits : Fits p
 
   -- the evidence for an inconsistent set has at most 196
   pub inconsistent-bounded : {asked : ℕ} {numbers : List ℕ} → ((x : ℕ) → Has asked x → x < count)
-    → WritesInconsistent parent rules asked numbers → Bounded 196 numbers
+      → WritesInconsistent parent rules asked numbers → Bounded 196 numbers
   inconsistent-bounded inTable (WritesInconsistent.pair x y r l w) =
       bounded-more (omega arith) (pair-bounded (inTable x (l .by .first)) (inTable y (l .by .second)) w)
   inconsistent-bounded inTable (WritesInconsistent.dead n x l w) = dead-bounded (inTable x (l .member)) (w .by)

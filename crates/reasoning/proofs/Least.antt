@@ -18,21 +18,28 @@ module _ (test : ℕ → Bool) where
   first-law : (left at : ℕ) → First left at (firstFrom test left at)
   unfolding firstFrom
   first-law zero at = record {
-    from = omega arith; upto = omega arith; passes = λ h. absurd (omega arith); before = λ j h k t. absurd (omega arith)
+    from = omega arith;
+    upto = omega arith;
+    passes = λ h. absurd (omega arith);
+    before = λ j h k t. absurd (omega arith);
   }
   first-law (suc left) at = pick (test at) refl (first-law left (suc at))
     where
-      pick : (b : Bool) → test at ≡ b → First left (suc at) (firstFrom test left (suc at)) → First (suc left) at (firstFrom test (suc left) at)
+      pick : (b : Bool) → test at ≡ b → First left (suc at) (firstFrom test left (suc at))
+          → First (suc left) at (firstFrom test (suc left) at)
       pick true e again =
           rw (firstFrom, e) (record {
-            from = omega arith; upto = omega arith; passes = λ h. rw e tt; before = λ j h k t. absurd (omega arith)
+            from = omega arith;
+            upto = omega arith;
+            passes = λ h. rw e tt;
+            before = λ j h k t. absurd (omega arith);
           })
       pick false e again =
           rw (firstFrom, e) (record {
             from = omega (arith, again .from);
             upto = omega (arith, again .upto);
             passes = λ h. again .passes (omega arith);
-            before = λ j h k t. earlier j h k t (ℕ-discrete at j)
+            before = λ j h k t. earlier j h k t (ℕ-discrete at j);
           })
         where
           earlier : (j : ℕ) → at ≤ j → j < firstFrom test left (suc at) → T (test j) → Dec (at ≡ j) → ⊥

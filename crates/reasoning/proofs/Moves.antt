@@ -18,9 +18,9 @@ use Rattle.reasoning.proofs.OneStep.{along-kind, kind-along, against-ki
 -- a step by one of the rules, which are numbered from r
 data RuleStep (rules : List Rule) (r x code y : ℕ) : Type 0 where
   right-of : (i : ℕ) (ru : Rule) → Numbered rules i ru → goesAlong ru ≡ true → code ≡ 2 * (r + i) + 1
-    → ru .left ≡ x → ru .right ≡ y → RuleStep rules r x code y
+      → ru .left ≡ x → ru .right ≡ y → RuleStep rules r x code y
   left-of : (i : ℕ) (ru : Rule) → Numbered rules i ru → goesAgainst ru ≡ true → code ≡ 2 * (r + i) + 2
-    → ru .right ≡ x → ru .left ≡ y → RuleStep rules r x code y
+      → ru .right ≡ x → ru .left ≡ y → RuleStep rules r x code y
 
 -- a move that leads into the set s by the least code of all steps that do
 pub record Least (Steps : ℕ → ℕ → Type 0) (s : ℕ) (m : Move) : Type 0 where
@@ -71,49 +71,51 @@ module _ (x s : ℕ) where
   code-above (left-of i u n g e a b) = omega arith
 
   rule-least : (rules : List Rule) (r code y : ℕ) → RuleStep rules r x code y → Has s y
-    → Least (RuleStep rules r x) s (ruleMove rules r x s)
+      → Least (RuleStep rules r x) s (ruleMove rules r x s)
   unfolding ruleMove
   rule-least [] r code y (right-of i u n g e a b) h = let l : i < 0 = numbered-lt n in absurd (omega arith)
   rule-least [] r code y (left-of i u n g e a b) h = let l : i < 0 = numbered-lt n in absurd (omega arith)
   rule-least (ru ∷ rest) r code y st h =
       pick (goesAlong ru && eqb (ru .left) x && hasb s (ru .right)) (goesAgainst ru && eqb (ru .right) x && hasb s (ru .left))
-        refl refl (λ (t : RuleStep rest (suc r) x code y). rule-least rest (suc r) code y t h)
+      refl refl (λ (t : RuleStep rest (suc r) x code y). rule-least rest (suc r) code y t h)
     where
       on : (goesAlong ru && eqb (ru .left) x && hasb s (ru .right)) ≡ false
-        → (goesAgainst ru && eqb (ru .right) x && hasb s (ru .left)) ≡ false
-        → (a z : ℕ) → Has s z → Split ru rest r a z → RuleStep rest (suc r) x a z
+          → (goesAgainst ru && eqb (ru .right) x && hasb s (ru .left)) ≡ false
+          → (a z : ℕ) → Has s z → Split ru rest r a z → RuleStep rest (suc r) x a z
       on e f a z k (straight g q p o) = absurd (untested (goesAlong ru) (ru .left) x s (ru .right) e g p (rw (← o) at k))
       on e f a z k (crossed g q p o) = absurd (untested (goesAgainst ru) (ru .right) x s (ru .left) f g p (rw (← o) at k))
       on e f a z k (beyond t) = t
+
       above : (goesAlong ru && eqb (ru .left) x && hasb s (ru .right)) ≡ false
-        → (a z : ℕ) → Has s z → Split ru rest r a z → 2 * r + 2 ≤ a
+          → (a z : ℕ) → Has s z → Split ru rest r a z → 2 * r + 2 ≤ a
       above e a z k (straight g q p o) = absurd (untested (goesAlong ru) (ru .left) x s (ru .right) e g p (rw (← o) at k))
       above e a z k (crossed g q p o) = omega arith
       above e a z k (beyond t) = omega (arith, code-above t)
+
       pick : (p q : Bool) → (goesAlong ru && eqb (ru .left) x && hasb s (ru .right)) ≡ p
-        → (goesAgainst ru && eqb (ru .right) x && hasb s (ru .left)) ≡ q
-        → (RuleStep rest (suc r) x code y → Least (RuleStep rest (suc r) x) s (ruleMove rest (suc r) x s))
-        → Least (RuleStep (ru ∷ rest) r x) s (ruleMove (ru ∷ rest) r x s)
+          → (goesAgainst ru && eqb (ru .right) x && hasb s (ru .left)) ≡ q
+          → (RuleStep rest (suc r) x code y → Least (RuleStep rest (suc r) x) s (ruleMove rest (suc r) x s))
+          → Least (RuleStep (ru ∷ rest) r x) s (ruleMove (ru ∷ rest) r x s)
       pick true q e f again =
           let t = tested (goesAlong ru) (ru .left) x s (ru .right) e in
           rw (ruleMove, e) (record {
             taken = right-of 0 ru first (t .passes) (omega arith) (t .equal) refl;
             into = t .member;
-            least = λ a z k m. code-above k
+            least = λ a z k m. code-above k;
           })
       pick false true e f again =
           let t = tested (goesAgainst ru) (ru .right) x s (ru .left) f in
           rw (ruleMove, e, f) (record {
             taken = left-of 0 ru first (t .passes) (omega arith) (t .equal) refl;
             into = t .member;
-            least = λ a z k m. above e a z m (split k)
+            least = λ a z k m. above e a z m (split k);
           })
       pick false false e f again =
           let l = again (on e f code y h (split st)) in
           rw (ruleMove, e, f) (record {
             taken = rule-later (l .taken);
             into = l .into;
-            least = λ a z k m. l .least a z (on e f a z m (split k)) m
+            least = λ a z k m. l .least a z (on e f a z m (split k)) m;
           })
 
 -- a step is a climb, or one by a rule
@@ -140,18 +142,19 @@ module _ {parent : ℕ → ℕ} {rules : List Rule} {x : ℕ} where
       by-rule e a z m (climbs l c p) =
           absurd (true≢false (sym (rw (lt-ltb 0 x l, hasb-has s (parent x) (rw (← p) at m))) ∙ e))
       by-rule e a z m (rules-it t) = t
+
       pick : (p : Bool) → (ltb 0 x && hasb s (parent x)) ≡ p → Least (Step parent rules x) s (leastMove parent rules x s)
       pick true e =
           let t = and-eq-true-iff (ltb 0 x) (hasb s (parent x)) .0 e in
           rw (leastMove, e) (record {
             taken = climb (ltb-true 0 x (t .0)) refl refl;
             into = hasb-true s (parent x) (t .1);
-            least = λ a z k m. omega arith
+            least = λ a z k m. omega arith;
           })
       pick false e =
           let l = rule-least x s rules 0 code y (by-rule e code y h (kind-of st)) h in
           rw (leastMove, e) (record {
             taken = rule-step (l .taken);
             into = l .into;
-            least = λ a z k m. l .least a z (by-rule e a z m (kind-of k)) m
+            least = λ a z k m. l .least a z (by-rule e a z m (kind-of k)) m;
           })

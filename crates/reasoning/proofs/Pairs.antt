@@ -30,7 +30,7 @@ either-iff false b = (λ t. inr t, λ t. second t)
 
 -- there is one least rule and side
 pub least-pair-unique : {parent : ℕ → ℕ} {rules : List Rule} {c p q r s a b : ℕ} → LeastPair parent rules c p q r a
-  → LeastPair parent rules c p q s b → (r ≡ s) × (a ≡ b)
+    → LeastPair parent rules c p q s b → (r ≡ s) × (a ≡ b)
 least-pair-unique {parent} {rules} {c} {p} {q} {r} {s} {a} {b} u v =
     let e : r ≡ s = omega (arith, u .leastRule s (some-side (v .by)), v .leastRule r (some-side (u .by))) in
     (e, same-side (subst (λ (z : ℕ). Sided parent rules c p q z a) e (u .by)) (v .by))
@@ -38,6 +38,7 @@ least-pair-unique {parent} {rules} {c} {p} {q} {r} {s} {a} {b} u v =
     some-side : {z t : ℕ} → Sided parent rules c p q z t → PairBy parent rules c p q z ⊎ PairBy parent rules c q p z
     some-side (straight h) = inl h
     some-side (crossed n h) = inr h
+
     same-side : {t w : ℕ} → Sided parent rules c p q s t → Sided parent rules c p q s w → t ≡ w
     same-side (straight h) (straight k) = refl
     same-side (straight h) (crossed n k) = absurd (n h)
@@ -48,35 +49,44 @@ module _ {parent : ℕ → ℕ} {rules : List Rule} {count : ℕ} (fits : Fits p
   -- the test by rule number r
   pub pairb-iff : (c p q r : ℕ) → p < count → q < count → T (pairb parent rules count c p q r) ↔ PairBy parent rules c p q r
   unfolding pairb sidesFrom
-  pairb-iff c p q r h k =
-      (λ t. to (absence-test rules r (λ ru. sidesFrom parent rules count ru c p q) .0 t),
-        λ d. absence-test rules r (λ ru. sidesFrom parent rules count ru c p q) .1 (back d))
+  pairb-iff c p q r h k = (
+    λ t. to (absence-test rules r (λ ru. sidesFrom parent rules count ru c p q) .0 t),
+    λ d. absence-test rules r (λ ru. sidesFrom parent rules count ru c p q) .1 (back d),
+  )
     where
       below : Rule → Bool
       below ru = belowb parent (contextOf parent (ru .left) (ru .right)) c
+
       sides : Rule → Bool
       sides ru =
           reachb parent rules count (contextOf parent (ru .left) (ru .right)) p (ru .left)
-            && reachb parent rules count (contextOf parent (ru .left) (ru .right)) q (ru .right)
+          && reachb parent rules count (contextOf parent (ru .left) (ru .right)) q (ru .right)
+
       to : AbsenceWith rules r (λ ru. T (sidesFrom parent rules count ru c p q)) → PairBy parent rules c p q r
       to a =
           let s = sides-iff fits r (a .ru) (a .rule) p q h k .0 (and-r (below (a .ru)) (sides (a .ru)) (a .holds)) in
           record {
-            ru = a .ru; rule = a .rule; absence = a .absence;
+            ru = a .ru;
+            rule = a .rule;
+            absence = a .absence;
             context = contextOf parent (a .ru .left) (a .ru .right);
             isContext = contextOf-context (fits .descending) (a .ru .left) (a .ru .right);
             prefix = belowb-iff (fits .descending) (contextOf parent (a .ru .left) (a .ru .right)) c .0
-              (and-l (below (a .ru)) (sides (a .ru)) (a .holds));
-            left = s .left; right = s .right
+                (and-l (below (a .ru)) (sides (a .ru)) (a .holds));
+            left = s .left;
+            right = s .right;
           }
+
       back : PairBy parent rules c p q r → AbsenceWith rules r (λ ru. T (sidesFrom parent rules count ru c p q))
       back d = record {
-        ru = d .ru; rule = d .rule; absence = d .absence;
+        ru = d .ru;
+        rule = d .rule;
+        absence = d .absence;
         holds = and-i (below (d .ru)) (sides (d .ru))
-          (belowb-iff (fits .descending) (contextOf parent (d .ru .left) (d .ru .right)) c .1
+            (belowb-iff (fits .descending) (contextOf parent (d .ru .left) (d .ru .right)) c .1
             (subst (λ (z : ℕ). Below parent z c) (sym (context-is (fits .descending) (d .isContext))) (d .prefix)))
-          (sides-iff fits r (d .ru) (d .rule) p q h k .1
-            (record { left = in-context fits (d .isContext) (d .left); right = in-context fits (d .isContext) (d .right) }))
+            (sides-iff fits r (d .ru) (d .rule) p q h k .1
+            (record { left = in-context fits (d .isContext) (d .left); right = in-context fits (d .isContext) (d .right) }));
       }
 
   module _ (c p q : ℕ) (first : p < count) (second : q < count) where
@@ -85,28 +95,32 @@ module _ {parent : ℕ → ℕ} {rules : List Rule} {count : ℕ} (fits : Fits p
 
     either-side : (r : ℕ) → T (eitherTest r) ↔ (PairBy parent rules c p q r ⊎ PairBy parent rules c q p r)
     unfolding eitherTest
-    either-side r = (λ t. to (either-iff (pairb parent rules count c p q r) (pairb parent rules count c q p r) .0 t),
-      λ d. either-iff (pairb parent rules count c p q r) (pairb parent rules count c q p r) .1 (back d))
+    either-side r = (
+      λ t. to (either-iff (pairb parent rules count c p q r) (pairb parent rules count c q p r) .0 t),
+      λ d. either-iff (pairb parent rules count c p q r) (pairb parent rules count c q p r) .1 (back d),
+    )
       where
         to : T (pairb parent rules count c p q r) ⊎ T (pairb parent rules count c q p r)
-          → PairBy parent rules c p q r ⊎ PairBy parent rules c q p r
+            → PairBy parent rules c p q r ⊎ PairBy parent rules c q p r
         to (inl t) = inl (pairb-iff c p q r first second .0 t)
         to (inr t) = inr (pairb-iff c q p r second first .0 t)
+
         back : PairBy parent rules c p q r ⊎ PairBy parent rules c q p r
-          → T (pairb parent rules count c p q r) ⊎ T (pairb parent rules count c q p r)
+            → T (pairb parent rules count c p q r) ⊎ T (pairb parent rules count c q p r)
         back (inl d) = inl (pairb-iff c p q r first second .1 d)
         back (inr d) = inr (pairb-iff c q p r second first .1 d)
 
     -- the side of a rule that excludes the pair
     side-of : (r : ℕ) → PairBy parent rules c p q r ⊎ PairBy parent rules c q p r
-      → Sided parent rules c p q r (pairSide parent rules count c p q r)
+        → Sided parent rules c p q r (pairSide parent rules count c p q r)
     unfolding pairSide
     side-of r d = pick (pairb parent rules count c p q r) refl d
       where
         not-straight : pairb parent rules count c p q r ≡ false → PairBy parent rules c p q r → ⊥
         not-straight e h = rw e at (pairb-iff c p q r first second .1 h)
+
         pick : (b : Bool) → pairb parent rules count c p q r ≡ b → PairBy parent rules c p q r ⊎ PairBy parent rules c q p r
-          → Sided parent rules c p q r (pairSide parent rules count c p q r)
+            → Sided parent rules c p q r (pairSide parent rules count c p q r)
         pick true e k = rw (pairSide, e) (straight (pairb-iff c p q r first second .0 (rw e tt)))
         pick false e (inl h) = absurd (not-straight e h)
         pick false e (inr h) = rw (pairSide, e) (crossed (not-straight e) h)
@@ -117,7 +131,7 @@ module _ {parent : ℕ → ℕ} {rules : List Rule} {count : ℕ} (fits : Fits p
 
     -- a pair that some rule excludes has its least rule and side, as computed
     pub pair-least : (r : ℕ) → PairBy parent rules c p q r ⊎ PairBy parent rules c q p r
-      → LeastPair parent rules c p q (pairRule parent rules count c p q)
+        → LeastPair parent rules c p q (pairRule parent rules count c p q)
         (pairSide parent rules count c p q (pairRule parent rules count c p q))
     unfolding pairRule eitherTest
     pair-least r d =
@@ -125,8 +139,8 @@ module _ {parent : ℕ → ℕ} {rules : List Rule} {count : ℕ} (fits : Fits p
         let under : pairRule parent rules count c p q < length rules = omega (arith, rule-under r d) in
         record {
           by = side-of (pairRule parent rules count c p q)
-            (either-side (pairRule parent rules count c p q) .0 (least-passes eitherTest (length rules) under));
-          leastRule = λ s e. least-least eitherTest (length rules) s (either-side s .1 e)
+              (either-side (pairRule parent rules count c p q) .0 (least-passes eitherTest (length rules) under));
+          leastRule = λ s e. least-least eitherTest (length rules) s (either-side s .1 e);
         }
 
     -- the test decides pairs
@@ -136,12 +150,15 @@ module _ {parent : ℕ → ℕ} {rules : List Rule} {count : ℕ} (fits : Fits p
       where
         found : (r : ℕ) → PairBy parent rules c p q r ⊎ PairBy parent rules c q p r → T (isPair parent rules count c p q)
         found r d = least-some eitherTest (length rules) r (rule-under r d) (either-side r .1 d)
+
         back : Pair parent rules c p q → T (isPair parent rules count c p q)
         back (Walk.straight r d) = found r (inl d)
         back (Walk.crossed r d) = found r (inr d)
+
         pair-of : (r : ℕ) → PairBy parent rules c p q r ⊎ PairBy parent rules c q p r → Pair parent rules c p q
         pair-of r (inl d) = Walk.straight r d
         pair-of r (inr d) = Walk.crossed r d
+
         to : T (isPair parent rules count c p q) → Pair parent rules c p q
         to t =
             let r = pairRule parent rules count c p q in

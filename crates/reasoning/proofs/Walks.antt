@@ -57,13 +57,13 @@ module _ {parent : ℕ → ℕ} {rules : List Rule} where
 
   -- two walks, one after the other
   pub walk-append : {c x y z : ℕ} {s t : List ℕ} → Walk parent rules c x s y → Walk parent rules c y t z
-    → Walk parent rules c x (s ++ t) z
+      → Walk parent rules c x (s ++ t) z
   walk-append (stay h) v = v
   walk-append (step h s w) v = step h s (walk-append w v)
 
   -- a walk and one step more
   pub walk-last : {c x y z code : ℕ} {s : List ℕ} → Walk parent rules c x s y → Step parent rules y code z → Below parent c z
-    → Walk parent rules c x (s ++ (code ∷ [])) z
+      → Walk parent rules c x (s ++ (code ∷ [])) z
   walk-last w s h = walk-append w (step (walk-end w) s (stay h))
 
   -- a walk inside c is one inside every prefix of c

@@ -42,13 +42,15 @@ smaller-total (a ∷ s) (b ∷ t) e = pick (compared a b) (smaller-total s t (om
   where
     shorts : length s ≡ length t
     shorts = omega arith
+
     equal-heads : a ≡ b → Smaller s t ⊎ ((s ≡ t) ⊎ Smaller t s)
-      → Smaller (a ∷ s) (b ∷ t) ⊎ (((a ∷ s) ≡ (b ∷ t)) ⊎ Smaller (b ∷ t) (a ∷ s))
+        → Smaller (a ∷ s) (b ∷ t) ⊎ (((a ∷ s) ≡ (b ∷ t)) ⊎ Smaller (b ∷ t) (a ∷ s))
     equal-heads p (inl h) = inl (subst (λ (z : ℕ). Smaller (a ∷ s) (z ∷ t)) p (later h))
     equal-heads p (inr (inl h)) = inr (inl (ap₂ (λ (x : ℕ) (l : List ℕ). x ∷ l) p h))
     equal-heads p (inr (inr h)) = inr (inr (subst (λ (z : ℕ). Smaller (z ∷ t) (a ∷ s)) p (later h)))
+
     pick : Compared a b → Smaller s t ⊎ ((s ≡ t) ⊎ Smaller t s)
-      → Smaller (a ∷ s) (b ∷ t) ⊎ (((a ∷ s) ≡ (b ∷ t)) ⊎ Smaller (b ∷ t) (a ∷ s))
+        → Smaller (a ∷ s) (b ∷ t) ⊎ (((a ∷ s) ≡ (b ∷ t)) ⊎ Smaller (b ∷ t) (a ∷ s))
     pick (less h) again = inl (here h shorts)
     pick (equal p) again = equal-heads p again
     pick (more h) again = inr (inr (here h (sym shorts)))
@@ -61,6 +63,7 @@ before-total s t = pick (compared (length s) (length t))
     same-length (inl h) = inl (smaller h)
     same-length (inr (inl h)) = inr (inl h)
     same-length (inr (inr h)) = inr (inr (smaller h))
+
     pick : Compared (length s) (length t) → Before s t ⊎ ((s ≡ t) ⊎ Before t s)
     pick (less h) = inl (shorter h)
     pick (equal e) = same-length (smaller-total s t e)
@@ -68,7 +71,7 @@ before-total s t = pick (compared (length s) (length t))
 
 -- there is one written walk
 pub written-unique : {parent : ℕ → ℕ} {rules : List Rule} {c x y : ℕ} {s t : List ℕ} → Written parent rules c x s y
-  → Written parent rules c x t y → s ≡ t
+    → Written parent rules c x t y → s ≡ t
 written-unique {s = s} {t = t} a b = pick (before-total s t)
   where
     pick : Before s t ⊎ ((s ≡ t) ⊎ Before t s) → s ≡ t

@@ -121,7 +121,7 @@ module _ (parent : ℕ → ℕ) (rules : List Rule) (count : ℕ) where
   unfoldable pub rootSides : (asked : ℕ) (ru : Rule) → Bool
   rootSides asked ru =
       eqb (contextOf parent (ru .left) (ru .right)) 0
-        && (ltb (reacher asked (ru .left)) count && ltb (reacher asked (ru .right)) count)
+      && (ltb (reacher asked (ru .left)) count && ltb (reacher asked (ru .right)) count)
 
   -- rule number r is an absence at the root that excludes two paths asked for
   unfoldable pub rootb : (asked r : ℕ) → Bool

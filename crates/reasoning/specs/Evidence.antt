@@ -13,8 +13,24 @@ use Rattle.reasoning.specs.Written.{Written}
 use Rattle.reasoning.specs.Reachable.{reachb}
 use Rattle.reasoning.specs.Search.{writtenWalk}
 use Rattle.reasoning.specs.Decide.{
-  ruleAt, LeastDead, LeastPair, RootPair, LeastRootPair, LowestDead, deadPath, deadRule, isDead, pairRule, isPair, pairSide, rootRule,
-  isRootPair, rootFirst, rootSecond, deadAsked, isAskedDead
+  ruleAt,
+  LeastDead,
+  LeastPair,
+  RootPair,
+  LeastRootPair,
+  LowestDead,
+  deadPath,
+  deadRule,
+  isDead,
+  pairRule,
+  isPair,
+  pairSide,
+  rootRule,
+  isRootPair,
+  rootFirst,
+  rootSecond,
+  deadAsked,
+  isAskedDead,
 }
 
 -- a walk in numbers: its step count and codes
@@ -51,7 +67,8 @@ pub data Ends (ru : Rule) : (side first second : ℕ) → Type 0 where
   crossed : Ends ru 1 (ru .right) (ru .left)
 
 -- evidence for a pair in numbers: 3, first path, second path, rule number, side, a walk from each inside the rule's context
-pub record PairNumbers (parent : ℕ → ℕ) (rules : List Rule) (W : ℕ → ℕ → List ℕ → ℕ → Type 0) (x y r side : ℕ) (numbers : List ℕ) : Type 0 where
+pub record PairNumbers (parent : ℕ → ℕ) (rules : List Rule) (W : ℕ → ℕ → List ℕ → ℕ → Type 0) (x y r side : ℕ) (numbers : List ℕ)
+    : Type 0 where
   pub ru : Rule
   pub rule : Numbered rules r ru
   pub absence : ru .kind ≡ 2
@@ -124,15 +141,15 @@ pub record WritesDead (parent : ℕ → ℕ) (rules : List Rule) (p : ℕ) (numb
 pub data WritesImplication (parent : ℕ → ℕ) (rules : List Rule) (p q : ℕ) (numbers : List ℕ) : Type 0 where
   direct : DirectNumbers parent (Written parent rules) p q numbers → WritesImplication parent rules p q numbers
   dead : (c : ℕ) → Context parent p q c → (Reach parent rules c p q → ⊥) → WritesDead parent rules p numbers
-    → WritesImplication parent rules p q numbers
+      → WritesImplication parent rules p q numbers
 
 -- absence: dead for p, else dead for q, else the pair with the least rule, side 0 preferred
 pub data WritesAbsence (parent : ℕ → ℕ) (rules : List Rule) (p q : ℕ) (numbers : List ℕ) : Type 0 where
   deadFirst : WritesDead parent rules p numbers → WritesAbsence parent rules p q numbers
   deadSecond : (Dead parent rules p → ⊥) → WritesDead parent rules q numbers → WritesAbsence parent rules p q numbers
   pair : (Dead parent rules p → ⊥) → (Dead parent rules q → ⊥) → (c r side : ℕ) → Context parent p q c
-    → LeastPair parent rules c p q r side → PairNumbers parent rules (Written parent rules) p q r side numbers
-    → WritesAbsence parent rules p q numbers
+      → LeastPair parent rules c p q r side → PairNumbers parent rules (Written parent rules) p q r side numbers
+      → WritesAbsence parent rules p q numbers
 
 -- co-occurrence: both implications' evidence, p to q first
 pub record WritesBoth (parent : ℕ → ℕ) (rules : List Rule) (p q : ℕ) (numbers : List ℕ) : Type 0 where
@@ -151,9 +168,9 @@ pub data Writes (parent : ℕ → ℕ) (rules : List Rule) (kind p q : ℕ) (num
 -- the evidence written for an inconsistent set: the root pair, side 0; else dead for the lowest dead path asked for
 pub data WritesInconsistent (parent : ℕ → ℕ) (rules : List Rule) (asked : ℕ) (numbers : List ℕ) : Type 0 where
   pair : (x y r : ℕ) → LeastRootPair parent rules asked x y r → PairNumbers parent rules (Written parent rules) x y r 0 numbers
-    → WritesInconsistent parent rules asked numbers
+      → WritesInconsistent parent rules asked numbers
   dead : ((x y r : ℕ) → RootPair parent rules asked x y r → ⊥) → (x : ℕ) → LowestDead parent rules asked x
-    → WritesDead parent rules x numbers → WritesInconsistent parent rules asked numbers
+      → WritesDead parent rules x numbers → WritesInconsistent parent rules asked numbers
 
 -- at most n numbers, each at most 512: such a number takes at most two bytes, so all of them at most 2 n
 pub record Bounded (n : ℕ) (numbers : List ℕ) : Type 0 where
@@ -183,8 +200,8 @@ module _ (parent : ℕ → ℕ) (rules : List Rule) (count : ℕ) where
   unfoldable pub yesb : (kind p q : ℕ) → Bool
   yesb kind p q =
       elim (eqb kind 1) [
-        true ↦ impliesb p q
-      | false ↦ elim (eqb kind 2) [ true ↦ excludesb p q | false ↦ impliesb p q && impliesb q p ]
+        | true ↦ impliesb p q
+        | false ↦ elim (eqb kind 2) [ true ↦ excludesb p q | false ↦ impliesb p q && impliesb q p ]
       ]
 
   -- whether some document that obeys holds all the paths asked for
@@ -201,7 +218,7 @@ module _ (parent : ℕ → ℕ) (rules : List Rule) (count : ℕ) where
       let ru = ruleAt rules r in
       let a = contextOf parent (ru .left) (ru .right) in
       2 ∷ (p ∷ (y ∷ (r ∷ (walkNumbers (writtenWalk parent rules count 0 p y)
-        ++ (walkNumbers (writtenWalk parent rules count a y (ru .left)) ++ walkNumbers (writtenWalk parent rules count a y (ru .right)))))))
+      ++ (walkNumbers (writtenWalk parent rules count a y (ru .left)) ++ walkNumbers (writtenWalk parent rules count a y (ru .right)))))))
 
   -- the evidence that p is dead
   unfoldable pub deadNumbers : (p : ℕ) → List ℕ
@@ -213,7 +230,7 @@ module _ (parent : ℕ → ℕ) (rules : List Rule) (count : ℕ) where
       let ru = ruleAt rules r in
       let a = contextOf parent (ru .left) (ru .right) in
       3 ∷ (x ∷ (y ∷ (r ∷ (side ∷ (walkNumbers (writtenWalk parent rules count a x (firstSide ru side))
-        ++ walkNumbers (writtenWalk parent rules count a y (secondSide ru side)))))))
+      ++ walkNumbers (writtenWalk parent rules count a y (secondSide ru side)))))))
 
   -- an implication's evidence
   unfoldable pub implicationNumbers : (p q : ℕ) → List ℕ
@@ -224,13 +241,13 @@ module _ (parent : ℕ → ℕ) (rules : List Rule) (count : ℕ) where
   unfoldable pub absenceNumbers : (p q : ℕ) → List ℕ
   absenceNumbers p q =
       elim (isDead parent rules count p) [
-        true ↦ deadNumbers p
-      | false ↦ elim (isDead parent rules count q) [
-          true ↦ deadNumbers q
-        | false ↦
-            let c = contextOf parent p q in
-            let r = pairRule parent rules count c p q in
-            pairNumbers p q r (pairSide parent rules count c p q r)
+        | true ↦ deadNumbers p
+        | false ↦ elim (isDead parent rules count q) [
+          | true ↦ deadNumbers q
+          | false ↦
+              let c = contextOf parent p q in
+              let r = pairRule parent rules count c p q in
+              pairNumbers p q r (pairSide parent rules count c p q r)
         ]
       ]
 
@@ -238,16 +255,16 @@ module _ (parent : ℕ → ℕ) (rules : List Rule) (count : ℕ) where
   unfoldable pub evidenceNumbers : (kind p q : ℕ) → List ℕ
   evidenceNumbers kind p q =
       elim (eqb kind 1) [
-        true ↦ implicationNumbers p q
-      | false ↦ elim (eqb kind 2) [ true ↦ absenceNumbers p q | false ↦ implicationNumbers p q ++ implicationNumbers q p ]
+        | true ↦ implicationNumbers p q
+        | false ↦ elim (eqb kind 2) [ true ↦ absenceNumbers p q | false ↦ implicationNumbers p q ++ implicationNumbers q p ]
       ]
 
   -- the evidence for an inconsistent set
   unfoldable pub inconsistentNumbers : (asked : ℕ) → List ℕ
   inconsistentNumbers asked =
       elim (isRootPair parent rules count asked) [
-        true ↦
-          let r = rootRule parent rules count asked in
-          pairNumbers (rootFirst parent rules count asked r) (rootSecond parent rules count asked r) r 0
-      | false ↦ deadNumbers (deadAsked parent rules count asked)
+        | true ↦
+            let r = rootRule parent rules count asked in
+            pairNumbers (rootFirst parent rules count asked r) (rootSecond parent rules count asked r) r 0
+        | false ↦ deadNumbers (deadAsked parent rules count asked)
       ]

@@ -17,10 +17,10 @@ unfoldable pub ruleMove : (rules : List Rule) (r x s : ℕ) → Move
 ruleMove [] r x s = record { code = 0; to = x }
 ruleMove (ru ∷ rest) r x s =
     elim (goesAlong ru && eqb (ru .left) x && hasb s (ru .right)) [
-      true ↦ record { code = 2 * r + 1; to = ru .right }
-    | false ↦ elim (goesAgainst ru && eqb (ru .right) x && hasb s (ru .left)) [
-        true ↦ record { code = 2 * r + 2; to = ru .left }
-      | false ↦ ruleMove rest (suc r) x s
+      | true ↦ record { code = 2 * r + 1; to = ru .right }
+      | false ↦ elim (goesAgainst ru && eqb (ru .right) x && hasb s (ru .left)) [
+        | true ↦ record { code = 2 * r + 2; to = ru .left }
+        | false ↦ ruleMove rest (suc r) x s
       ]
     ]
 
@@ -41,8 +41,8 @@ unfoldable pub seek : (parent : ℕ → ℕ) (rules : List Rule) (count within f
 seek parent rules count within zero x s nearer = forward parent rules x nearer
 seek parent rules count within (suc fuel) x s nearer =
     elim (hasb s x) [
-      true ↦ forward parent rules x nearer
-    | false ↦ seek parent rules count within fuel x (oneStep backward parent rules count within s) (s ∷ nearer)
+      | true ↦ forward parent rules x nearer
+      | false ↦ seek parent rules count within fuel x (oneStep backward parent rules count within s) (s ∷ nearer)
     ]
 
 -- the codes of the written walk from x to y inside c, for y reachable from x inside c

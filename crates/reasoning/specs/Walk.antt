@@ -11,15 +11,15 @@ use Rattle.documents.specs.Paths.{Below, Context}
 pub data Step (parent : ℕ → ℕ) (rules : List Rule) (x code y : ℕ) : Type 0 where
   climb : 0 < x → code ≡ 0 → parent x ≡ y → Step parent rules x code y
   along : (r : ℕ) (ru : Rule) → Numbered rules r ru → (ru .kind ≡ 1) ⊎ (ru .kind ≡ 3) → code ≡ 2 * r + 1
-    → ru .left ≡ x → ru .right ≡ y → Step parent rules x code y
+      → ru .left ≡ x → ru .right ≡ y → Step parent rules x code y
   against : (r : ℕ) (ru : Rule) → Numbered rules r ru → ru .kind ≡ 3 → code ≡ 2 * r + 2
-    → ru .right ≡ x → ru .left ≡ y → Step parent rules x code y
+      → ru .right ≡ x → ru .left ≡ y → Step parent rules x code y
 
 -- a walk inside c, with the codes of its steps: it visits no path outside c's subtree
 pub data Walk (parent : ℕ → ℕ) (rules : List Rule) (c : ℕ) : ℕ → List ℕ → ℕ → Type 0 where
   stay : {x : ℕ} → Below parent c x → Walk parent rules c x [] x
   step : {x y z code : ℕ} {codes : List ℕ} → Below parent c x → Step parent rules x code y
-    → Walk parent rules c y codes z → Walk parent rules c x (code ∷ codes) z
+      → Walk parent rules c y codes z → Walk parent rules c x (code ∷ codes) z
 
 -- y is reachable from x inside c
 pub record Reach (parent : ℕ → ℕ) (rules : List Rule) (c x y : ℕ) : Type 0 where
