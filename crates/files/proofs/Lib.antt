@@ -1,4 +1,5 @@
 -- Laws of the definitions in specs/.
 pub mod SetBits
+pub mod SetLowest
 pub mod SetMembers
-pub mod SetWords
+mod SetWords

@@ -2,16 +2,14 @@
 use Prim.Native.Nat.{ℕ, zero, suc, _+_, _-_, _*_, _/_, _%_, _^_, _≤_, _<_, min, max}
 use mathlib.Core.Path.{_≡_, refl, sym, ap, ap₂, subst, _∙_}
 use mathlib.Core.Logic.{_↔_, _≢_, _⊎_, inl, inr, ⊎-elim}
-use mathlib.Core.Bool.{Bool, true, false}
-use native.Mathlib.Nat.{le-refl, le-trans, lt-of-le-of-lt, lt-of-lt-of-le, zero-lt-suc, sub-le, eq-or-lt-of-le, eq-zero-or-pos, pow-suc, pow-succ', mod-lt, zero-div, div-one, div-self, div-eq-of-lt, div-div-eq-div-mul, mul-mod-left, mul-div-cancel, min-eq-left, min-eq-right}
+use mathlib.Core.Bool.{true, false}
+use native.Mathlib.Nat.{le-refl, lt-of-le-of-lt, lt-of-lt-of-le, zero-lt-suc, sub-le, pow-suc, pow-succ', mod-lt, zero-div, div-one, div-self, div-eq-of-lt, div-div-eq-div-mul}
 use native.Mathlib.Decide.{decLt, ℕ-discrete}
 use native.Mathlib.Omega.{arith}
-use lib.Dec.{ltb}
 use lib.Pow.{pow-pos, pow-mono, pow-lt, pow-add, ones-lt}
-use lib.Bits.{bitAnd, bitOr, and-step, or-step, and-shr, or-shr, and-le-l, and-le-r, and-lt, or-lt, or-add-and, and-high, and-self}
-use lib.Count.{trailingZeros, under, trailing-of-zero, trailing-le}
+use lib.Bits.{bitAnd, bitOr, and-step, or-step, and-shr, or-shr, and-le-l, and-le-r, or-lt, or-add-and, and-high}
 use borrow.Author.Tests.{lt-ltb, le-ltb, eq-eqb, ne-eqb, eqb-true, eqb-false}
-use Rattle.files.specs.Sets.{bit, Has, hasb, withPath, withoutPath, union, common, difference, belowAll, lowest, withoutLowest}
+use Rattle.files.specs.Sets.{bit, Has, hasb, withPath, withoutPath, union, common, difference, belowAll}
 
 -- ---- one bit
 
@@ -208,9 +206,6 @@ and-one w i h = and-pow w i ∙ ap (λ (x : ℕ). x * 2 ^ i) (h .one) ∙ omega 
 and-none : (w i : ℕ) → bit w i ≡ 0 → bitAnd w (2 ^ i) ≡ 0
 and-none w i e = and-pow w i ∙ ap (λ (x : ℕ). x * 2 ^ i) e ∙ omega arith
 
-pub has-ge : (w i : ℕ) → Has w i → 2 ^ i ≤ w
-has-ge w i h = omega (arith, and-one w i h, and-le-l w (2 ^ i))
-
 pub with-new : (w i : ℕ) → i < 64 → bit w i ≡ 0 → withPath w i ≡ w + 2 ^ i
 unfolding withPath
 with-new w i h e = rw (lt-ltb i 64 h, hasb-absent w i e)
@@ -334,110 +329,3 @@ has-below x i = (λ h. (go h (decLt i x), has-under (belowAll x) 64 i (below-lt 
     go : Has (belowAll x) i → Dec (i < x) → i < x
     go h (yes l) = l
     go h (no n) = absurd (not-has (bit-below-out x i (omega arith)) h)
-
--- ---- the least path
-
--- no path below the least
-none-below : (k w i : ℕ) → i < trailingZeros k w → bit w i ≡ 0
-unfolding trailingZeros
-none-below zero w i h = omega arith
-none-below (suc k) w i h = go (w % 2) refl i (none-below k (w / 2)) h
-  where
-    go : (d : ℕ) → w % 2 ≡ d → (j : ℕ) → ((m : ℕ) → m < trailingZeros k (w / 2) → bit (w / 2) m ≡ 0)
-        → j < under d (trailingZeros k (w / 2)) → bit w j ≡ 0
-    go zero e zero ih l = bit-zero w ∙ e
-    go zero e (suc j) ih l = bit-suc w j ∙ ih j (omega arith)
-    go (suc d) e j ih l = omega arith
-
--- what t, the least path of a set w of paths below k, is to w
-record Least (k w t : ℕ) : Type 0 where
-  under-k : t < k
-  there : bit w t ≡ 1
-  rest : bitAnd w (w - 1) + 2 ^ t ≡ w
-
-least : (k w : ℕ) → 0 < w → w < 2 ^ k → Least k w (trailingZeros k w)
-unfolding trailingZeros
-least zero w p h = absurd (omega arith)
-least (suc k) w p h = go (w % 2) refl (λ q. least k (w / 2) q (omega (arith, pow-suc 2 k)))
-  where
-    even : w % 2 ≡ 0 → Least k (w / 2) (trailingZeros k (w / 2)) → Least (suc k) w (suc (trailingZeros k (w / 2)))
-    even e l =
-        let less : (w - 1) / 2 ≡ w / 2 - 1 = omega arith in
-        let step : bitAnd w (w - 1) ≡ bitAnd (w / 2) (w / 2 - 1) * 2 + min (w % 2) ((w - 1) % 2) =
-        and-step w (w - 1) ∙ ap (λ (x : ℕ). bitAnd (w / 2) x * 2 + min (w % 2) ((w - 1) % 2)) less in
-        record {
-          under-k = omega arith;
-          there = bit-suc w (trailingZeros k (w / 2)) ∙ l .there;
-          rest = omega (arith, step, l .rest, pow-suc 2 (trailingZeros k (w / 2)));
-        }
-
-    odd : w % 2 ≡ 1 → Least (suc k) w 0
-    odd e =
-        let less : (w - 1) / 2 ≡ w / 2 = omega arith in
-        let step : bitAnd w (w - 1) ≡ w / 2 * 2 + min (w % 2) ((w - 1) % 2) =
-        and-step w (w - 1) ∙ ap (λ (x : ℕ). bitAnd (w / 2) x * 2 + min (w % 2) ((w - 1) % 2)) less
-        ∙ ap (λ (x : ℕ). x * 2 + min (w % 2) ((w - 1) % 2)) (and-self (w / 2)) in
-        record { under-k = zero-lt-suc k; there = bit-zero w ∙ e; rest = omega (arith, step) }
-
-    go : (d : ℕ) → w % 2 ≡ d → (0 < w / 2 → Least k (w / 2) (trailingZeros k (w / 2)))
-        → Least (suc k) w (under d (trailingZeros k (w / 2)))
-    go zero e ih = even e (ih (omega arith))
-    go (suc d) e ih = odd (omega arith)
-
-pub lowest-of-zero : lowest 0 ≡ 64
-unfolding lowest
-lowest-of-zero = trailing-of-zero 64
-
-pub lowest-le : (w : ℕ) → lowest w ≤ 64
-unfolding lowest
-lowest-le w = trailing-le 64 w
-
-pub bit-below-lowest : (w i : ℕ) → i < lowest w → bit w i ≡ 0
-unfolding lowest
-bit-below-lowest w i h = none-below 64 w i h
-
--- the least path is below every other
-pub lowest-first : (w i : ℕ) → Has w i → lowest w ≤ i
-lowest-first w i h = go (decLt i (lowest w))
-  where
-    go : Dec (i < lowest w) → lowest w ≤ i
-    go (yes l) = absurd (not-has (bit-below-lowest w i l) h)
-    go (no n) = omega arith
-
-module _ (w : ℕ) (some : 0 < w) (fits : w < 2 ^ 64) where
-  pub lowest-lt : lowest w < 64
-  unfolding lowest
-  lowest-lt = least 64 w some fits .under-k
-
-  pub has-lowest : Has w (lowest w)
-  unfolding lowest
-  has-lowest = record { one = least 64 w some fits .there }
-
-  -- the word and the word below it have all but the least path in common
-  pub without-lowest-and : bitAnd w (w - 1) ≡ withoutLowest w
-  unfolding lowest withoutLowest
-  without-lowest-and = omega (arith, least 64 w some fits .rest, without-old w (lowest w) has-lowest)
-
-  pub without-lowest-less : withoutLowest w < w
-  unfolding withoutLowest
-  without-lowest-less = omega (arith, without-old w (lowest w) has-lowest, pow-pos (lowest w))
-
-pub bit-without-lowest-same : (w : ℕ) → bit (withoutLowest w) (lowest w) ≡ 0
-unfolding withoutLowest
-bit-without-lowest-same w = bit-without-same w (lowest w)
-
-pub bit-without-lowest-other : (w i : ℕ) → i ≢ lowest w → bit (withoutLowest w) i ≡ bit w i
-unfolding withoutLowest
-bit-without-lowest-other w i n = bit-without-other w (lowest w) i n
-
-pub has-without-lowest : (w i : ℕ) → Has (withoutLowest w) i ↔ (i ≢ lowest w) × Has w i
-unfolding withoutLowest
-has-without-lowest w i = has-without w (lowest w) i
-
-pub without-lowest-lt : (w : ℕ) → w < 2 ^ 64 → withoutLowest w < 2 ^ 64
-unfolding withoutLowest
-without-lowest-lt w h = without-lt w (lowest w) h
-
-pub without-lowest-of-zero : withoutLowest 0 ≡ 0
-unfolding withoutLowest
-without-lowest-of-zero = without-absent 0 (lowest 0) (bit-of-zero (lowest 0))

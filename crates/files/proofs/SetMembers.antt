@@ -1,17 +1,16 @@
 -- Laws of a set's size and of the list of its members.
-use Prim.Native.Nat.{ℕ, zero, suc, _+_, _-_, _*_, _/_, _%_, _^_, _≤_, _<_, min}
+use Prim.Native.Nat.{ℕ, zero, suc, _+_, _^_, _≤_, _<_}
 use mathlib.Core.Path.{_≡_, refl, sym, ap, ap₂, subst, _∙_}
 use mathlib.Core.Logic.{_↔_, _≢_, _⊎_, inl, inr, ⊎-elim}
 use mathlib.Core.List.{List, [], _∷_, _++_, List·Memᴰ, List·Memᴰ·head, List·Memᴰ·tail, List·Memᴰ·not-nil, List·Memᴰ·cases-cons}
-use native.Mathlib.Nat.{le-refl, le-of-eq, le-trans, le-add-right, eq-or-lt-of-le, zero-lt-suc, add-zero, add-suc, suc-add, add-comm, pow-zero, mod-one, mod-eq-of-lt, mod-lt, min-eq-left, min-eq-right, lt-of-lt-of-le}
+use native.Mathlib.Nat.{le-refl, le-of-eq, eq-or-lt-of-le, add-zero}
 use native.Mathlib.Decide.{decLt, ℕ-discrete, le-ind}
-use native.Mathlib.Numerals.{add-one, one-add}
+use native.Mathlib.Numerals.{add-one}
 use native.Mathlib.Omega.{arith}
 use lib.ListN.{length}
-use lib.Pow.{pow-pos, pow-mono, mod-pow-add}
-use lib.Count.{ones, ones-cat, ones-step}
 use Rattle.files.specs.Sets.{bit, Has, withPath, lowest, withoutPath, withoutLowest, sizeBelow, size, keep, membersFrom, members, Ascending, none, next}
-use Rattle.files.proofs.SetBits.{bit-small, bit-cases, bit-absent, not-has, bit-of-zero, bit-past, bit-with-same, bit-with-other, bit-without-same, bit-without-other, has-under, has-lowest, lowest-lt, bit-below-lowest, bit-without-lowest-same, bit-without-lowest-other}
+use Rattle.files.proofs.SetBits.{bit-small, bit-cases, bit-absent, not-has, bit-of-zero, bit-past, bit-with-same, bit-with-other, bit-without-same, bit-without-other, has-under}
+use Rattle.files.proofs.SetLowest.{has-lowest, lowest-lt, bit-below-lowest, bit-without-lowest-same, bit-without-lowest-other}
 
 -- ---- how many paths
 
@@ -33,6 +32,10 @@ size-below-all w = refl
 pub size-below-mono : (w i j : ℕ) → i ≤ j → sizeBelow w i ≤ sizeBelow w j
 size-below-mono w i j h =
     le-ind (λ (m : ℕ). sizeBelow w i ≤ sizeBelow w m) (le-refl (sizeBelow w i)) (λ m l e. omega (arith, size-below-suc w m)) j h
+
+-- a path of the set counts from the next number on
+pub size-below-has : (w i j : ℕ) → Has w i → i < j → sizeBelow w i < sizeBelow w j
+size-below-has w i j m h = omega (arith, size-below-suc w i, size-below-mono w (suc i) j h, m .one)
 
 pub size-below-le : (w i : ℕ) → sizeBelow w i ≤ i
 size-below-le w zero = le-of-eq (size-below-zero w)
@@ -96,7 +99,7 @@ size-without-lowest w p f = size-without w (lowest w) (lowest-lt w p f) (has-low
 -- ---- the members
 
 module _ (w : ℕ) where
-  from-zero : (k : ℕ) → membersFrom 0 k w ≡ []
+  pub from-zero : (k : ℕ) → membersFrom 0 k w ≡ []
   unfolding membersFrom
   from-zero k = refl
 
@@ -104,10 +107,10 @@ module _ (w : ℕ) where
   unfolding membersFrom
   from-suc n k = refl
 
-  from-has : (n k : ℕ) → Has w k → membersFrom (suc n) k w ≡ k ∷ membersFrom n (suc k) w
+  pub from-has : (n k : ℕ) → Has w k → membersFrom (suc n) k w ≡ k ∷ membersFrom n (suc k) w
   from-has n k h = from-suc n k ∙ ap (λ (d : ℕ). keep d k (membersFrom n (suc k) w)) (h .one)
 
-  from-absent : (n k : ℕ) → bit w k ≡ 0 → membersFrom (suc n) k w ≡ membersFrom n (suc k) w
+  pub from-absent : (n k : ℕ) → bit w k ≡ 0 → membersFrom (suc n) k w ≡ membersFrom n (suc k) w
   from-absent n k e = from-suc n k ∙ ap (λ (d : ℕ). keep d k (membersFrom n (suc k) w)) e
 
   pub from-none : (n k : ℕ) → ((j : ℕ) → k ≤ j → bit w j ≡ 0) → membersFrom n k w ≡ []

@@ -1,6 +1,6 @@
 -- What the code's operations on 64-bit words compute, by the names of specs/Sets.antt: a law for each place where a function returns.
 use Prim.Native.Nat.{ℕ, zero, suc, _+_, _-_, _*_, _/_, _%_, _^_, _≤_, _<_, min}
-use mathlib.Core.Path.{_≡_, refl, sym, ap, ap₂, subst, _∙_}
+use mathlib.Core.Path.{_≡_, refl, sym, ap, ap₂, _∙_}
 use mathlib.Core.Bool.{false}
 use native.Mathlib.Nat.{zero-lt-suc, pos-of-ne-zero, one-mul, add-comm, mod-one, mod-lt, mod-eq-of-lt, min-eq-left, min-eq-right, le-of-lt}
 use native.Mathlib.Decide.{decLt}
@@ -11,7 +11,8 @@ use lib.Pow.{pow-pos, shl-exact, mod-pow-add}
 use lib.Bits.{bitAnd, bitOr, and-mask}
 use lib.Count.{ones, ones-cat, trailingZeros}
 use Rattle.files.specs.Sets.{bit, hasb, withPath, withoutPath, union, difference, belowAll, lowest, withoutLowest, sizeBelow, size, UpTo64}
-use Rattle.files.proofs.SetBits.{bit-small, bit-past, hasb-absent, with-is-union, without-is-difference, without-absent, lowest-le, without-lowest-of-zero, without-lowest-and}
+use Rattle.files.proofs.SetBits.{bit-small, bit-past, hasb-absent, with-is-union, without-is-difference, without-absent}
+use Rattle.files.proofs.SetLowest.{lowest-le, without-lowest-of-zero, without-lowest-and}
 use Rattle.files.proofs.SetMembers.{size-below-zero, size-below-suc, size-below-all, size-below-past, size-below-le-size, size-le}
 
 pub has-past : (w x : ℕ) → w < 2 ^ 64 → 64 ≤ x → false ≡ hasb w x

@@ -9,7 +9,9 @@ below-requires : tie.Need-below-requires
 below-requires c κs = search needs
 
 cast-result : tie.Need-cast-result
-cast-result c = omega (arith, size-below-and (c .before .args .w) (c .before .args .x) (c .below .result) (c .before .fits .w .fits) (c .below .ensures))
+cast-result c =
+    omega
+    (arith, size-below-and (c .before .args .w) (c .before .args .x) (c .below .result) (c .before .fits .w .fits) (c .below .ensures))
 
 returns : tie.Need-returns
 returns c = size-below-and (c .before .args .w) (c .before .args .x) (c .below .result) (c .before .fits .w .fits) (c .below .ensures)
