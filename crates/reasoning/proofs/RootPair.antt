@@ -9,13 +9,15 @@ use lib.Dec.{T, eqb, ltb, eqb→eq, ltb→lt, lt→ltb}
 use lib.Ieee.Fits.{and-i, and-l, and-r}
 use lib.ListN.{length}
 use Rattle.files.specs.Table.{Rule}
-use Rattle.files.specs.Sets.{Has, hasb}
-use Rattle.files.proofs.SetBits.{has-with, not-has, bit-of-zero}
+use Rattle.files.specs.Sets.{Has, hasb, common, lowest}
+use Rattle.files.proofs.SetBits.{has-with, not-has, bit-of-zero, has-common, common-lt}
+use Rattle.files.proofs.SetLowest.{lowest-first}
 use Rattle.documents.specs.Paths.{same, Context, contextOf}
 use Rattle.documents.proofs.Paths.{below-zero, contextOf-context, context-is}
 use Rattle.reasoning.specs.Walk.{Reach, Dead, PairBy}
 use Rattle.reasoning.specs.Required.{Needed, root, listed}
 use Rattle.reasoning.specs.Reachable.{Fits, reachb}
+use Rattle.reasoning.specs.Least.{passing}
 use Rattle.reasoning.specs.Decide.{
   RootPair,
   LeastRootPair,
@@ -31,10 +33,11 @@ use Rattle.reasoning.specs.Decide.{
   isDead,
   deadAsked,
   isAskedDead,
+  deadPaths,
 }
 use Rattle.reasoning.proofs.Walks.{numbered-lt}
 use Rattle.reasoning.proofs.Reachable.{T-hasb, reachb-iff}
-use Rattle.reasoning.proofs.Least.{least-passes, least-least, least-some}
+use Rattle.reasoning.proofs.Least.{least-passes, least-least, least-some, passing-iff, passing-small, some-lowest, has-some}
 use Rattle.reasoning.proofs.Decide.{ruleAt-numbered, AbsenceWith, absence-test, isDead-iff}
 
 -- the set asked for has the paths that every document asked for has
@@ -209,39 +212,33 @@ module _ {parent : ℕ → ℕ} {rules : List Rule} {count : ℕ} (fits : Fits p
     λ d. least-some (rootb parent rules count asked) (length rules) (d .2) (numbered-lt (d .3 .by .rule)) (root-test (d .3)),
   )
 
-  deadTest : ℕ → Bool
-  deadTest x = hasb asked x && isDead parent rules count x
-
-  dead-test : (x : ℕ) → Has asked x → Dead parent rules x → T (deadTest x)
-  unfolding deadTest
-  dead-test x h d =
-      and-i (hasb asked x) (isDead parent rules count x) (T-hasb asked x .1 h) (isDead-iff fits x (inTable x h) .1 d)
+  -- the dead paths asked for
+  dead-asked-iff : (x : ℕ) → Has (common (deadPaths parent rules count) asked) x ↔ (Has asked x × Dead parent rules x)
+  unfolding deadPaths
+  dead-asked-iff x =
+      let both = has-common (passing (isDead parent rules count) count) asked x in
+      let passes = passing-iff (isDead parent rules count) count x (fits .few) in (
+        λ h. (both .0 h .1, isDead-iff fits x (inTable x (both .0 h .1)) .0 (passes .0 (both .0 h .0) .1)),
+        λ d. both .1 (passes .1 (inTable x (d .0), isDead-iff fits x (inTable x (d .0)) .1 (d .1)), d .0),
+      )
 
   -- where a dead path is asked for, the computed one is the lowest
-  pub dead-asked-lowest : (x : ℕ) → Has asked x → Dead parent rules x → LowestDead parent rules asked (deadAsked parent rules count asked)
-  unfolding deadAsked deadTest
-  dead-asked-lowest x h d =
-      let z = deadAsked parent rules count asked in
-      let low = least-least deadTest count x (dead-test x h d) in
-      let under : z < count = omega (arith, inTable x h) in
-      let t = least-passes deadTest count under in
+  pub dead-asked-lowest : T (isAskedDead parent rules count asked) → LowestDead parent rules asked (deadAsked parent rules count asked)
+  unfolding isAskedDead deadAsked deadPaths
+  dead-asked-lowest t =
+      let w = common (deadPaths parent rules count) asked in
+      let small = common-lt (deadPaths parent rules count) asked (passing-small (isDead parent rules count) count) in
+      let found = dead-asked-iff (lowest w) .0 (some-lowest w small t) in
       record {
-        member = T-hasb asked z .0 (and-l (hasb asked z) (isDead parent rules count z) t);
-        dead = isDead-iff fits z under .0 (and-r (hasb asked z) (isDead parent rules count z) t);
-        lowest = λ v k e. least-least deadTest count v (dead-test v k e);
+        member = found .0;
+        dead = found .1;
+        lowest = λ z h d. lowest-first w z (dead-asked-iff z .1 (h, d));
       }
 
   -- the test decides whether a path asked for is dead
   pub isAskedDead-iff : T (isAskedDead parent rules count asked) ↔ ((x : ℕ) × Has asked x × Dead parent rules x)
-  unfolding isAskedDead deadAsked deadTest
-  isAskedDead-iff = (to, λ d. least-some deadTest count (d .0) (inTable (d .0) (d .1)) (dead-test (d .0) (d .1) (d .2)))
-    where
-      to : T (isAskedDead parent rules count asked) → (x : ℕ) × Has asked x × Dead parent rules x
-      to t =
-          let z = deadAsked parent rules count asked in
-          let under = ltb→lt z count t in
-          let p = least-passes deadTest count under in (
-            z,
-            T-hasb asked z .0 (and-l (hasb asked z) (isDead parent rules count z) p),
-            isDead-iff fits z under .0 (and-r (hasb asked z) (isDead parent rules count z) p),
-          )
+  unfolding isAskedDead
+  isAskedDead-iff = (
+    λ t. let l = dead-asked-lowest t in (deadAsked parent rules count asked, l .member, l .dead),
+    λ d. has-some (common (deadPaths parent rules count) asked) (d .0) (dead-asked-iff (d .0) .1 (d .1, d .2)),
+  )
