@@ -1,16 +1,17 @@
 -- The root pair of an inconsistent set and its lowest dead path are computed exactly if there are such.
-use Prim.Native.Nat.{ℕ, _≤_, _<_}
+use Prim.Native.Nat.{ℕ, _^_, _≤_, _<_}
 use mathlib.Core.Path.{_≡_, refl, sym, subst}
-use mathlib.Core.Logic.{_⊎_, inl, inr, _↔_}
+use mathlib.Core.Logic.{_⊎_, inl, inr, _↔_, Iff·trans, Iff·symm}
 use mathlib.Core.Bool.{Bool, _&&_}
 use mathlib.Core.List.{List, [], _∷_, List·Memᴰ, List·Memᴰ·cases-cons, List·Memᴰ·not-nil, List·Memᴰ·head, List·Memᴰ·tail}
 use native.Mathlib.Omega.{arith}
-use lib.Dec.{T, eqb, ltb, eqb→eq, ltb→lt, lt→ltb}
+use lib.Dec.{lit<, T, eqb, ltb, eqb→eq, ltb→lt, lt→ltb}
 use lib.Ieee.Fits.{and-i, and-l, and-r}
 use lib.ListN.{length}
 use Rattle.files.specs.Table.{Rule}
-use Rattle.files.specs.Sets.{Has, hasb, common, lowest}
-use Rattle.files.proofs.SetBits.{has-with, not-has, bit-of-zero, has-common, common-lt}
+use Rattle.files.specs.Sets.{Has, hasb, common, lowest, withPath, members}
+use Rattle.files.proofs.SetBits.{has-with, with-lt, has-under, same-sets, not-has, bit-of-zero, has-common, common-lt}
+use Rattle.files.proofs.SetMembers.{mem-members}
 use Rattle.files.proofs.SetLowest.{lowest-first}
 use Rattle.documents.specs.Paths.{same, Context, contextOf}
 use Rattle.documents.proofs.Paths.{below-zero, contextOf-context, context-is}
@@ -73,6 +74,28 @@ askedIn-iff (a ∷ rest) low x =
     into : (Needed rest x → Has (askedIn rest) x) → Needed (a ∷ rest) x → (x ≡ a) ⊎ Has (askedIn rest) x
     into again (root e) = inr (again (root e))
     into again (listed m) = tail-of again (List·Memᴰ·cases-cons m)
+
+askedIn-small : (required : List ℕ) → askedIn required < 2 ^ 64
+unfolding askedIn
+askedIn-small [] = with-lt 0 0 (lit< tt)
+askedIn-small (x ∷ rest) = with-lt (askedIn rest) x (askedIn-small rest)
+
+-- where the required paths are the members of a set, it is that set with the root
+pub askedIn-members : (w : ℕ) → w < 2 ^ 64 → askedIn (members w) ≡ withPath w 0
+askedIn-members w h =
+    same-sets (askedIn (members w)) (withPath w 0) (askedIn-small (members w)) (with-lt w 0 h) (λ x l. Iff·trans (asked x)
+    (Iff·trans (λ n. in-or-root x n, λ n. needed x n) (Iff·symm (has-with w 0 x (omega arith)))))
+  where
+    asked : (x : ℕ) → Has (askedIn (members w)) x ↔ Needed (members w) x
+    asked = askedIn-iff (members w) (λ x m. has-under w 64 x h (mem-members w x h .0 m))
+
+    in-or-root : (x : ℕ) → Needed (members w) x → (x ≡ 0) ⊎ Has w x
+    in-or-root x (root e) = inl e
+    in-or-root x (listed m) = inr (mem-members w x h .0 m)
+
+    needed : (x : ℕ) → (x ≡ 0) ⊎ Has w x → Needed (members w) x
+    needed x (inl e) = root e
+    needed x (inr m) = listed (mem-members w x h .1 m)
 
 -- there is one least root pair
 pub least-root-pair-unique : {parent : ℕ → ℕ} {rules : List Rule} {asked x y r u v s : ℕ} → LeastRootPair parent rules asked x y r

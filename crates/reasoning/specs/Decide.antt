@@ -147,10 +147,11 @@ module _ (parent : ℕ → ℕ) (rules : List Rule) (count : ℕ) where
   unfoldable pub isRootPair : (asked : ℕ) → Bool
   isRootPair asked = ltb (rootRule asked) (length rules)
 
-  -- the lowest paths asked for that reach the two sides of rule number r
+  -- the lowest path asked for that reaches the left side of rule number r
   unfoldable pub rootFirst : (asked r : ℕ) → ℕ
   rootFirst asked r = reacher asked (ruleAt rules r .left)
 
+  -- the lowest path asked for that reaches the right side of rule number r
   unfoldable pub rootSecond : (asked r : ℕ) → ℕ
   rootSecond asked r = reacher asked (ruleAt rules r .right)
 
