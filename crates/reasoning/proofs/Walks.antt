@@ -1,11 +1,11 @@
 -- The laws of steps, walks and reachable: determined by the code, joined, taken apart, moved to a prefix.
-use Prim.Native.Nat.{ℕ, suc, _+_, _*_, _<_}
+use Prim.Native.Nat.{ℕ, _<_}
 use mathlib.Core.Path.{_≡_, refl, sym, ap, _∙_, subst}
-use mathlib.Core.Logic.{_⊎_}
 use mathlib.Core.List.{List, [], _∷_, _++_}
 use native.Mathlib.Omega.{arith}
+use lib.ListN.{length}
 use Rattle.files.specs.Table.{Rule, Numbered, first, later}
-use Rattle.documents.specs.Paths.{Below, same, up, Descending}
+use Rattle.documents.specs.Paths.{Below}
 use Rattle.documents.proofs.Paths.{below-trans}
 use Rattle.reasoning.specs.Walk.{Step, climb, along, against, Walk, stay, step, Reach}
 
@@ -13,6 +13,11 @@ use Rattle.reasoning.specs.Walk.{Step, climb, along, against, Walk, stay
 pub numbered-unique : {rules : List Rule} {r : ℕ} {a b : Rule} → Numbered rules r a → Numbered rules r b → a ≡ b
 numbered-unique first first = refl
 numbered-unique (later m) (later n) = numbered-unique m n
+
+-- a rule's number is below the number of rules
+pub numbered-lt : {rules : List Rule} {r : ℕ} {ru : Rule} → Numbered rules r ru → r < length rules
+numbered-lt first = omega arith
+numbered-lt (later n) = omega (arith, numbered-lt n)
 
 -- the first step of a walk: where it leads, and the walk from there
 pub record Onward (parent : ℕ → ℕ) (rules : List Rule) (c x code : ℕ) (codes : List ℕ) (y : ℕ) : Type 0 where

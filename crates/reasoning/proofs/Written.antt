@@ -1,13 +1,12 @@
 -- The order on written walks is total and strict, so there is at most one written walk.
-use Prim.Native.Nat.{ℕ, zero, suc, _<_}
-use mathlib.Core.Path.{_≡_, refl, sym, ap, ap₂, subst}
+use Prim.Native.Nat.{ℕ, _<_}
+use mathlib.Core.Path.{_≡_, refl, sym, ap₂, subst}
 use mathlib.Core.Logic.{_⊎_, inl, inr}
 use mathlib.Core.List.{List, [], _∷_}
 use native.Mathlib.Omega.{arith}
-use native.Mathlib.Decide.{ℕ-discrete, decLt}
+use native.Mathlib.Decide.{decLt}
 use lib.ListN.{length}
 use Rattle.files.specs.Table.{Rule}
-use Rattle.reasoning.specs.Walk.{Walk}
 use Rattle.reasoning.specs.Written.{Smaller, here, later, Before, shorter, smaller, Written}
 
 -- of two numbers
@@ -23,11 +22,6 @@ compared a b = pick (decLt a b) (decLt b a)
     pick (yes h) k = less h
     pick (no h) (yes k) = more k
     pick (no h) (no k) = equal (omega arith)
-
--- the smaller of two lists is as long
-pub smaller-length : {s t : List ℕ} → Smaller s t → length s ≡ length t
-smaller-length (here h e) = ap suc e
-smaller-length (later h) = ap suc (smaller-length h)
 
 -- nothing is smaller than itself
 pub smaller-irreflexive : {s : List ℕ} → Smaller s s → ⊥
