@@ -1,7 +1,7 @@
 -- Laws of the numbers of a rule file collected in an array, section by section: what is stored and what remains.
-use Prim.Native.Nat.{ℕ, zero, suc, _+_, _-_, _^_, _<_, _≤_}
-use mathlib.Core.Path.{_≡_, refl, sym, ap, _∙_}
-use mathlib.Core.List.{List, [], _∷_, _++_}
+use Prim.Native.Nat.{ℕ, suc, _+_, _-_, _^_, _<_, _≤_}
+use mathlib.Core.Path.{_≡_, ap, _∙_}
+use mathlib.Core.List.{List, _∷_}
 use native.Mathlib.Omega.{arith}
 use native.Mathlib.Numerals.{add-one, add-two, add-three}
 use lib.ListN.{length, getD, set}
@@ -9,7 +9,6 @@ use lib.Seq.{sets}
 use Rattle.files.specs.RuleFile.{pathNumbers, ruleNumbers}
 use Rattle.files.specs.Rules.{pathsFrom, rulesFrom}
 use Rattle.files.specs.Sets.{lowest, withoutLowest, size, members}
-use Rattle.files.specs.Table.{Rule}
 use Rattle.files.proofs.Reader.{paths-step}
 use Rattle.files.proofs.SetMembers.{members-take, members-of-zero, size-members, size-le}
 
@@ -58,7 +57,7 @@ pub ruleset members-laws = (members-less, members-count, members-on, members-mos
 -- the rules from x on begin with rule x
 pub rules-step : (kind left right : List ℕ) (x count : ℕ) → x < count
     → rulesFrom kind left right x (count - x)
-      ≡ record { kind = getD kind x 0; left = getD left x 0; right = getD right x 0 } ∷ rulesFrom kind left right (x + 1) (count - (x + 1))
+    ≡ record { kind = getD kind x 0; left = getD left x 0; right = getD right x 0 } ∷ rulesFrom kind left right (x + 1) (count - (x + 1))
 unfolding rulesFrom
 rules-step kind left right x count h = rw (let e : count - x ≡ suc (count - (x + 1)) = omega arith in e)
 

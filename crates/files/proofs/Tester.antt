@@ -1,23 +1,23 @@
 -- Laws of the test behind refusal 12, in the words of the code.
 use Prim.Native.Nat.{ℕ, zero, suc, _+_, _-_, _^_, _<_, _≤_}
-use mathlib.Core.Path.{_≡_, refl, sym, ap, ap₂, _∙_}
+use mathlib.Core.Path.{_≡_, refl, sym, ap, _∙_}
 use mathlib.Core.Bool.{Bool, true, false, cond, not}
 use mathlib.Core.List.{List, [], _∷_, _++_}
 use mathlib.Core.Logic.{_⊎_, inl, inr, ⊎-elim}
 use native.Mathlib.Omega.{arith}
 use lib.ListN.{length, getD, set, replicate}
-use lib.Dec.{ltb, leb, eqb}
+use lib.Dec.{ltb, eqb}
 use borrow.Author.Tests.{eq-eqb, ne-eqb, lt-ltb, le-ltb, ltb-true, ltb-false, not-true, not-false}
 use Rattle.files.specs.declared.rules.Rules.{Rules}
 use Rattle.files.specs.Number.{limit}
 use Rattle.files.specs.RuleFile.{between, deeper, depths, parentTest, labelTest, repeats}
 use Rattle.files.specs.Rules.{pathsFrom, rulesFrom, padded}
 use Rattle.files.specs.Sets.{common, difference, belowAll}
-use Rattle.files.specs.Table.{Path, Rule}
+use Rattle.files.specs.Table.{Path}
 use Rattle.files.specs.Writing.{both, pathPasses, passingDepth, pathsPass, ruleAt, rulePasses, rulesPass, requiredPass, pathsValid, rulesValid, tablePasses}
 use Rattle.files.proofs.Collect.{rules-step}
 use Rattle.files.proofs.Padded.{padded-get, padded-store}
-use Rattle.files.proofs.Reader.{between-low, between-past, between-in, paths-step, paths-length, paths-own, parent-padded, parent-below, parent-shallow}
+use Rattle.files.proofs.Reader.{between-low, between-past, between-in, paths-step, paths-own, parent-padded, parent-below, parent-shallow}
 use Rattle.files.proofs.Tables.{depths-snoc, depths-length}
 
 -- ---- one path
@@ -108,13 +108,13 @@ pass-depths parent label = refl
 -- whether a path passes, by its depth
 passes-by : (ps : List Path) (p l d : ℕ) → d ≡ passingDepth ps p l
     → ((d ≡ 0) × (pathPasses ps (record { parent = p; label = l }) ≡ false))
-      ⊎ ((d ≡ 1 + getD (depths ps) p 0) × (pathPasses ps (record { parent = p; label = l }) ≡ true))
+    ⊎ ((d ≡ 1 + getD (depths ps) p 0) × (pathPasses ps (record { parent = p; label = l }) ≡ true))
 unfolding passingDepth
 passes-by ps p l d e = by (pathPasses ps (record { parent = p; label = l })) refl
   where
     by : (t : Bool) → pathPasses ps (record { parent = p; label = l }) ≡ t
         → ((d ≡ 0) × (pathPasses ps (record { parent = p; label = l }) ≡ false))
-          ⊎ ((d ≡ 1 + getD (depths ps) p 0) × (pathPasses ps (record { parent = p; label = l }) ≡ true))
+        ⊎ ((d ≡ 1 + getD (depths ps) p 0) × (pathPasses ps (record { parent = p; label = l }) ≡ true))
     by true f = inr (e ∙ rw f, f)
     by false f = inl (e ∙ rw f, f)
 
@@ -257,7 +257,7 @@ both-three false b c d = refl
 
 table-parts : (t : Rules) → tablePasses t
     ≡ both (pathsValid (t .parent) (t .label) (t .paths))
-      (both (requiredPass (t .paths) (t .required)) (rulesValid (t .kind) (t .left) (t .right) (t .rules) (t .paths)))
+    (both (requiredPass (t .paths) (t .required)) (rulesValid (t .kind) (t .left) (t .right) (t .rules) (t .paths)))
 unfolding tablePasses pathsValid rulesValid
 table-parts t =
     both-three
