@@ -79,7 +79,8 @@ from-step : (l : List ℕ) (i : ℕ) → i < length l → bytesFrom l i ≡ byte
 unfolding bytesFrom wrapped bytesOfAll
 from-step l i h = rw (drop-cons l i 0 h, add-one)
 
-from-length : (l : List ℕ) (i : ℕ) → i < length l → length (bytesFrom l i) ≡ length (bytesOf (getD l i 0 % limit)) + length (bytesFrom l (i + 1))
+from-length : (l : List ℕ) (i : ℕ) → i < length l
+    → length (bytesFrom l i) ≡ length (bytesOf (getD l i 0 % limit)) + length (bytesFrom l (i + 1))
 from-length l i h = ap length (from-step l i h) ∙ length-append (bytesOf (getD l i 0 % limit)) (bytesFrom l (i + 1))
 
 -- the size of all: what is counted and what remains

@@ -78,7 +78,8 @@ module _ (t : Rules) (least : 1 ≤ t .paths) where
         (arith, ap length numbers-sections, length-append paths (required ++ rules), length-append required rules, paths-size, rules-size)
 
     pub collected : (entry one two three : List ℕ) → one ≡ sets entry 0 (pathSection (t .parent) (t .label) (t .paths))
-        → two ≡ sets one after (requiredSection (t .required)) → three ≡ sets two next (ruleSection (t .kind) (t .left) (t .right) (t .rules))
+        → two ≡ sets one after (requiredSection (t .required))
+        → three ≡ sets two next (ruleSection (t .kind) (t .left) (t .right) (t .rules))
         → three ≡ sets entry 0 (numbersOf (rulesOf t))
     collected entry one two three e f g =
         three-runs entry one two three paths required rules after next (omega (arith, paths-size)) (omega arith) e f g
