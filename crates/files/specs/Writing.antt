@@ -10,9 +10,9 @@ use Rattle.files.specs.declared.rules.Rules.{Rules}
 use Rattle.files.specs.declared.write.Written.{Written}
 use Rattle.files.specs.declared.write.Written.the-variants.{Length, Refused}
 use Rattle.files.specs.Number.{limit, bytesOfAll}
-use Rattle.files.specs.RuleFile.{between, parentTest, labelTest, depths, fileOf}
+use Rattle.files.specs.RuleFile.{between, parentTest, labelTest, depths, pathNumbers, ruleNumbers, fileOf}
 use Rattle.files.specs.Rules.{rulesOf, pathsFrom, rulesFrom, ValidTable}
-use Rattle.files.specs.Sets.{common, difference, belowAll}
+use Rattle.files.specs.Sets.{common, difference, belowAll, members}
 use Rattle.files.specs.Table.{Path, Rule}
 
 -- both tests hold
@@ -83,6 +83,17 @@ put bytes out =
 -- what writing a table into a lent buffer answers and leaves: refusal 12 first
 unfoldable pub writeAnswer : Rules → List ℕ → Put
 writeAnswer t out = cond (tablePasses t) (put (fileOf (rulesOf t)) out) (record { answer = Refused 12 0; buffer = out })
+
+-- the numbers of a table's file in three sections: path count, root label, parents and labels; required count and required
+-- paths; rule count and rules
+abbrev pub pathSection : List ℕ → List ℕ → ℕ → List ℕ
+pathSection parent label count = count ∷ getD label 0 0 ∷ pathNumbers (pathsFrom parent label 1 (count - 1))
+
+abbrev pub requiredSection : ℕ → List ℕ
+requiredSection required = length (members required) ∷ members required
+
+abbrev pub ruleSection : List ℕ → List ℕ → List ℕ → ℕ → List ℕ
+ruleSection kind left right many = many ∷ ruleNumbers (rulesFrom kind left right 0 many)
 
 -- numbers as a file can hold them: one at or past the limit is taken modulo the limit
 unfoldable pub wrapped : List ℕ → List ℕ

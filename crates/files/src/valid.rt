@@ -1,8 +1,8 @@
 // The test behind refusal 12: whether a table handed in meets the conditions of 3 to 10 and has no label past the limit.
-ghost use Prim.Native.Nat.{ℕ, _+_, _-_, _≤_, _<_};
+ghost use Prim.Native.Nat.{_+_, _-_, _≤_, _<_};
 ghost use mathlib.Core.Path.{_≡_};
-ghost use mathlib.Core.List.{List, []};
-ghost use lib.ListN.{length, getD};
+ghost use mathlib.Core.List.{[]};
+ghost use lib.ListN.{getD};
 ghost use Rattle.files.specs.RuleFile.{depths};
 ghost use Rattle.files.specs.Rules.{pathsFrom, rulesFrom, padded};
 ghost use Rattle.files.specs.Writing.{passingDepth, pathsPass, ruleAt, rulePasses, rulesPass, requiredPass, pathsValid, rulesValid, tablePasses};

@@ -11,7 +11,11 @@ use Rattle.files.specs.Writing.{pathsPass}
 use Rattle.files.proofs.Tester.{pass-laws}
 
 abbrev Inv-loop : tie.InvT-loop
-Inv-loop parent label count depth₀ own₀ depth own = (1 ≤ own) × (own ≤ count) × (depth ≡ padded 64 (depths (pathsFrom parent label 1 (own - 1)))) × (pathsPass (pathsFrom parent label 1 (own - 1)) (pathsFrom parent label own (count - own)) ≡ pathsPass [] (pathsFrom parent label 1 (count - 1)))
+Inv-loop parent label count depth₀ own₀ depth own =
+    (1 ≤ own)
+    × (own ≤ count)
+    × (depth ≡ padded 64 (depths (pathsFrom parent label 1 (own - 1))))
+    × (pathsPass (pathsFrom parent label 1 (own - 1)) (pathsFrom parent label own (count - own)) ≡ pathsPass [] (pathsFrom parent label 1 (count - 1)))
 
 abbrev μ-loop : tie.MeasureT-loop
 μ-loop parent label count depth₀ own₀ depth own = count - own

@@ -9,7 +9,9 @@ use Rattle.files.specs.Writing.{rulesPass}
 use Rattle.files.proofs.Tester.{all-laws}
 
 abbrev Inv-loop : tie.InvT-loop
-Inv-loop kind left right many count x₀ x = (x ≤ many) × (rulesPass count (rulesFrom kind left right x (many - x)) ≡ rulesPass count (rulesFrom kind left right 0 many))
+Inv-loop kind left right many count x₀ x =
+    (x ≤ many)
+    × (rulesPass count (rulesFrom kind left right x (many - x)) ≡ rulesPass count (rulesFrom kind left right 0 many))
 
 abbrev μ-loop : tie.MeasureT-loop
 μ-loop kind left right many count x₀ x = many - x

@@ -10,7 +10,11 @@ use Rattle.files.specs.Rules.{pathsFrom}
 use Rattle.files.proofs.Collect.{paths-laws}
 
 abbrev Inv-loop : tie.InvT-loop
-Inv-loop parent label count numbers₀ at₀ x₀ numbers at x = (1 ≤ x) × (x ≤ count) × (at ≡ 2 * x) × (sets numbers at (pathNumbers (pathsFrom parent label x (count - x))) ≡ sets numbers₀ 2 (pathNumbers (pathsFrom parent label 1 (count - 1))))
+Inv-loop parent label count numbers₀ at₀ x₀ numbers at x =
+    (1 ≤ x)
+    × (x ≤ count)
+    × (at ≡ 2 * x)
+    × (sets numbers at (pathNumbers (pathsFrom parent label x (count - x))) ≡ sets numbers₀ 2 (pathNumbers (pathsFrom parent label 1 (count - 1))))
 
 abbrev μ-loop : tie.MeasureT-loop
 μ-loop parent label count numbers₀ at₀ x₀ numbers at x = count - x

@@ -10,7 +10,11 @@ use Rattle.files.specs.Sets.{members}
 use Rattle.files.proofs.Collect.{members-laws}
 
 abbrev Inv-loop : tie.InvT-loop
-Inv-loop required start numbers₀ at₀ rest₀ numbers at rest = (rest < 2 ^ 64) × (at + length (members rest) ≡ start + 1 + length (members required)) × (start + 1 + length (members required) ≤ start + 65) × (sets numbers at (members rest) ≡ sets numbers₀ (start + 1) (members required))
+Inv-loop required start numbers₀ at₀ rest₀ numbers at rest =
+    (rest < 2 ^ 64)
+    × (at + length (members rest) ≡ start + 1 + length (members required))
+    × (start + 1 + length (members required) ≤ start + 65)
+    × (sets numbers at (members rest) ≡ sets numbers₀ (start + 1) (members required))
 
 abbrev μ-loop : tie.MeasureT-loop
 μ-loop required start numbers₀ at₀ rest₀ numbers at rest = length (members rest)

@@ -10,7 +10,10 @@ use Rattle.files.specs.Writing.{wrapped}
 use Rattle.files.proofs.Stores.{bytesFrom, all-laws}
 
 abbrev Inv-loop : tie.InvT-loop
-Inv-loop numbers size₀ i₀ size i = (i ≤ length numbers) × (size ≤ 2 * i) × (size + length (bytesFrom numbers i) ≡ length (bytesOfAll (wrapped numbers)))
+Inv-loop numbers size₀ i₀ size i =
+    (i ≤ length numbers)
+    × (size ≤ 2 * i)
+    × (size + length (bytesFrom numbers i) ≡ length (bytesOfAll (wrapped numbers)))
 
 abbrev μ-loop : tie.MeasureT-loop
 μ-loop numbers size₀ i₀ size i = length numbers - i

@@ -11,7 +11,11 @@ use Rattle.files.specs.Writing.{wrapped}
 use Rattle.files.proofs.Stores.{bytesFrom, all-laws}
 
 abbrev Inv-loop : tie.InvT-loop
-Inv-loop numbers out₀ at₀ i₀ out at i = (i ≤ length numbers) × (length out ≡ length out₀) × (at + length (bytesFrom numbers i) ≤ length out₀) × (sets out at (bytesFrom numbers i) ≡ sets out₀ 0 (bytesOfAll (wrapped numbers)))
+Inv-loop numbers out₀ at₀ i₀ out at i =
+    (i ≤ length numbers)
+    × (length out ≡ length out₀)
+    × (at + length (bytesFrom numbers i) ≤ length out₀)
+    × (sets out at (bytesFrom numbers i) ≡ sets out₀ 0 (bytesOfAll (wrapped numbers)))
 
 abbrev μ-loop : tie.MeasureT-loop
 μ-loop numbers out₀ at₀ i₀ out at i = length numbers - i
