@@ -55,6 +55,17 @@ paths-padded parent label root ps e f =
     (λ i. let n : 1 + i ≡ suc i = omega arith in rw (e, n) (padded-get 64 (parents ps) (suc i)))
     (λ i. let n : 1 + i ≡ suc i = omega arith in rw (f, n) (padded-get 64 (labels root ps) (suc i)))
 
+-- so many paths, and so many rules, are as many as they say
+pub paths-length : (parent label : List ℕ) (x k : ℕ) → length (pathsFrom parent label x k) ≡ k
+unfolding pathsFrom
+paths-length parent label x zero = refl
+paths-length parent label x (suc k) = ap suc (paths-length parent label (x + 1) k)
+
+pub rules-length : (kind left right : List ℕ) (x k : ℕ) → length (rulesFrom kind left right x k) ≡ k
+unfolding rulesFrom
+rules-length kind left right x zero = refl
+rules-length kind left right x (suc k) = ap suc (rules-length kind left right (x + 1) k)
+
 -- ---- the parents in an array of their own
 
 slots-parents : (parent label : List ℕ) (x k : ℕ) → slotsFrom parent x k ≡ map (λ (p : Path). p .parent) (pathsFrom parent label x k)
@@ -109,13 +120,13 @@ module _ (parent : List ℕ) (last : ℕ) (clean : List ℕ) (x : ℕ) (inv : Pa
   parents-more h few =
       let here : 1 + (x - 1) ≡ x = omega (arith, inv .some) in
       let next : x + 1 - 1 ≡ suc (x - 1) = omega (arith, inv .some) in
-      record
-      { some = omega arith
-      ; filled =
-        ap (λ (l : List ℕ). set l x (getD parent x 0)) (inv .filled)
-        ∙ padded-store 64 (0 ∷ slotsFrom parent 1 (x - 1)) x (getD parent x 0) (omega (arith, slots-length parent 1 (x - 1), inv .some)) (omega arith)
-        ∙ ap (λ (l : List ℕ). padded 64 (0 ∷ l)) (ap (λ (i : ℕ). slotsFrom parent 1 (x - 1) ++ (getD parent i 0 ∷ [])) (sym here) ∙ sym (slots-snoc parent 1 (x - 1)) ∙ ap (slotsFrom parent 1) (sym next))
-      ; most = inl (omega arith)
+      record {
+        some = omega arith;
+        filled =
+            ap (λ (l : List ℕ). set l x (getD parent x 0)) (inv .filled)
+            ∙ padded-store 64 (0 ∷ slotsFrom parent 1 (x - 1)) x (getD parent x 0) (omega (arith, slots-length parent 1 (x - 1), inv .some)) (omega arith)
+            ∙ ap (λ (l : List ℕ). padded 64 (0 ∷ l)) (ap (λ (i : ℕ). slotsFrom parent 1 (x - 1) ++ (getD parent i 0 ∷ [])) (sym here) ∙ sym (slots-snoc parent 1 (x - 1)) ∙ ap (slotsFrom parent 1) (sym next));
+        most = inl (omega arith);
       }
 
   pub parents-end : (count : ℕ) → last ≡ firstOf count → last ≤ x → clean ≡ parentsIn parent count

@@ -17,10 +17,11 @@ use Rattle.files.specs.Rules.{pathsFrom, rulesFrom, rulesOf, ValidTable}
 use Rattle.files.specs.Sets.{members}
 use Rattle.files.specs.Table.{Path, Rule}
 use Rattle.files.specs.Writing.{tablePasses, put, writeAnswer, wrapped, pathSection, requiredSection, ruleSection, Puts}
-use Rattle.files.proofs.Reader.{paths-length, paths-own}
+use Rattle.files.proofs.Reader.{paths-own}
+use Rattle.files.proofs.Tables.{paths-length, rules-length}
 use Rattle.files.proofs.RuleFiles.{valid-leads}
 use Rattle.files.proofs.Stores.{sets-append}
-use Rattle.files.proofs.TableTests.{passes-valid, rules-from-length}
+use Rattle.files.proofs.TableTests.{passes-valid}
 
 -- ---- the numbers collected
 
@@ -59,7 +60,7 @@ module _ (t : Rules) (least : 1 ≤ t .paths) where
   numbers-sections : numbersOf (rulesOf t) ≡ paths ++ (required ++ rules)
   unfolding numbersOf rulesOf
   numbers-sections =
-      rw (paths-own (t .parent) (t .label) (t .paths) least, rules-from-length (t .kind) (t .left) (t .right) 0 (t .rules))
+      rw (paths-own (t .parent) (t .label) (t .paths) least, rules-length (t .kind) (t .left) (t .right) 0 (t .rules))
 
   paths-size : length paths ≡ 2 * t .paths
   paths-size =
@@ -69,7 +70,7 @@ module _ (t : Rules) (least : 1 ≤ t .paths) where
   rules-size : length rules ≡ 1 + 3 * t .rules
   rules-size =
       omega
-      (arith, rule-numbers-length (rulesFrom (t .kind) (t .left) (t .right) 0 (t .rules)), rules-from-length (t .kind) (t .left) (t .right) 0 (t .rules))
+      (arith, rule-numbers-length (rulesFrom (t .kind) (t .left) (t .right) 0 (t .rules)), rules-length (t .kind) (t .left) (t .right) 0 (t .rules))
 
   module _ (after next : ℕ) (a : after ≡ 2 * t .paths) (b : next ≡ after + 1 + length (members (t .required))) where
     pub collected-count : (n : ℕ) → n ≡ next + 1 + 3 * t .rules → n ≡ length (numbersOf (rulesOf t))
@@ -124,7 +125,7 @@ module _ (t : Rules) (v : Bool) (e : v ≡ tablePasses t) where
 
     pub few-rules : t .rules ≤ 256
     unfolding rulesOf
-    few-rules = omega (arith, valid .valid .rules, rules-from-length (t .kind) (t .left) (t .right) 0 (t .rules))
+    few-rules = omega (arith, valid .valid .rules, rules-length (t .kind) (t .left) (t .right) 0 (t .rules))
 
     pub write-puts : (out after l z : List ℕ) (r : Written) (n : ℕ) → l ≡ sets z 0 (numbersOf (rulesOf t)) → length z ≡ 1024
         → n ≡ length (numbersOf (rulesOf t)) → n ≤ 1024 → Puts (put (bytesOfAll (wrapped (lib.ListN.take n l))) out) r after

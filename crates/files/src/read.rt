@@ -11,6 +11,9 @@ ghost use Rattle.files.specs.Rules.{pathsFrom, padded, addAll, tableOf};
 ghost use Rattle.files.specs.Reading.{tested, pathAnswer, pathsAnswer, requiredAnswer, ruleAnswer, ruleListAnswer, PathsIn, readingOf, ReadRules};
 use crate::number::Number;
 use crate::number::read_number;
+use crate::number::wide;
+use crate::number::wide_number;
+use crate::number::wide32;
 use crate::rules::Rules;
 use crate::sets::with;
 
@@ -63,24 +66,6 @@ pub enum Answer {
 pub struct Reading {
     pub answer: Answer,
     pub rules: Rules,
-}
-
-pub(crate) fn wide(b: u8) -> usize
-    ensures { λ r. ⌜ (r ≡ b) × (r < 256) ⌝ }
-{
-    b as usize
-}
-
-pub(crate) fn wide32(b: u8) -> u32
-    ensures { λ r. ⌜ (r ≡ b) × (r < 256) ⌝ }
-{
-    b as u32
-}
-
-pub(crate) fn wide_number(n: u32) -> usize
-    ensures { λ r. ⌜ r ≡ n ⌝ }
-{
-    n as usize
 }
 
 // A number that stands from `low` up to and without `past`, or its refusal.

@@ -6,11 +6,11 @@ ghost use lib.ListN.{getD};
 ghost use Rattle.files.specs.RuleFile.{depths};
 ghost use Rattle.files.specs.Rules.{pathsFrom, rulesFrom, padded};
 ghost use Rattle.files.specs.Writing.{passingDepth, pathsPass, ruleAt, rulePasses, rulesPass, requiredPass, pathsValid, rulesValid, tablePasses};
+use crate::number::wide;
+use crate::number::wide_number;
+use crate::number::wide32;
 use crate::read::parent_test;
 use crate::read::repeats;
-use crate::read::wide;
-use crate::read::wide_number;
-use crate::read::wide32;
 use crate::rules::Rules;
 use crate::sets;
 

@@ -10,7 +10,7 @@ ghost use Rattle.files.specs.Sets.{members};
 ghost use Rattle.files.specs.Writing.{put, wrapped, pathSection, requiredSection, ruleSection, Puts, WriteRules};
 use crate::number::put_number;
 use crate::number::size_of;
-use crate::read::wide32;
+use crate::number::wide32;
 use crate::rules::Rules;
 use crate::sets;
 use crate::valid::valid_table;
