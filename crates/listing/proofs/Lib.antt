@@ -1,0 +1,2 @@
+-- The crate's laws.
+pub mod Digits
