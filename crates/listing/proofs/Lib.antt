@@ -1,2 +1,3 @@
 -- The crate's laws.
 pub mod Digits
+pub mod Puts
