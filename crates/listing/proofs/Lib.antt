@@ -1,3 +1,4 @@
 -- The crate's laws.
 pub mod Digits
+pub mod Pieces
 pub mod Puts

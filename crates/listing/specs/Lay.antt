@@ -16,13 +16,13 @@ use Rattle.listing.specs.declared.lay.Laid.{Laid}
 use Rattle.listing.specs.Text.{digits, spaced, feed}
 
 -- the words of the three forms: consistent, inconsistent, refused
-abbrev pub consistent : List ℕ
+unfoldable pub consistent : List ℕ
 consistent = 99 ∷ 111 ∷ 110 ∷ 115 ∷ 105 ∷ 115 ∷ 116 ∷ 101 ∷ 110 ∷ 116 ∷ []
 
-abbrev pub inconsistent : List ℕ
-inconsistent = 105 ∷ 110 ∷ consistent
+unfoldable pub inconsistent : List ℕ
+inconsistent = 105 ∷ 110 ∷ 99 ∷ 111 ∷ 110 ∷ 115 ∷ 105 ∷ 115 ∷ 116 ∷ 101 ∷ 110 ∷ 116 ∷ []
 
-abbrev pub refusedWord : List ℕ
+unfoldable pub refusedWord : List ℕ
 refusedWord = 114 ∷ 101 ∷ 102 ∷ 117 ∷ 115 ∷ 101 ∷ 100 ∷ []
 
 -- the line of a refusal: its number and its place
@@ -44,7 +44,7 @@ consistentText es = consistent ++ (spaced (length es ∷ []) ++ (10 ∷ partsTex
 
 -- the text of a number x by what it is; `last`: no number follows it
 unfoldable pub pieceText : Stage → ℕ → ℕ → Bool → ℕ → List ℕ
-pieceText Count part left last x = consistent ++ (spaced (x ∷ []) ++ (10 ∷ []))
+pieceText Count part left last x = consistent ++ (spaced (x ∷ []) ++ feed true)
 pieceText Path part left last x = digits part ++ spaced (x ∷ [])
 pieceText Children part left last x = feed (eqb x 0)
 pieceText Child part left last x = spaced (x ∷ []) ++ feed (leb left 1)

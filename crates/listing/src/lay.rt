@@ -1,10 +1,12 @@
 // Numbers of a document or of evidence laid out as text, as much of it as a lent block takes.
 ghost use Prim.Native.Nat.{ℕ, _+_, _≤_, _<_};
 ghost use mathlib.Core.Path.{_≡_};
-ghost use mathlib.Core.List.{List, [], _∷_};
+ghost use mathlib.Core.Bool.{true};
+ghost use mathlib.Core.List.{List, [], _∷_, _++_};
 ghost use lib.ListN.{length, drop};
 ghost use lib.Seq.{sets};
 ghost use Rattle.listing.specs.Text.{digits, spaced, feed, Stored};
+ghost use Rattle.listing.specs.Lay.{consistent, inconsistent, pieceText};
 
 
 use files::number::Number;
@@ -101,4 +103,55 @@ fn put_feed(wanted: bool, out: &mut [u8], at: usize) -> usize
         return at + 1;
     }
     at
+}
+
+// A number after a space, and a line feed where it is asked for.
+fn put_last(wanted: bool, x: u64, out: &mut [u8], at: usize) -> usize
+    requires { ⌜ at + 22 ≤ length (now out) ⌝ }
+    ensures { λ r. ⌜ Stored (spaced (x ∷ []) ++ feed wanted) (now (out .entry)) at (now (out .exit)) r ⌝ }
+{
+    let next = put_spaced(x, out, at);
+    put_feed(wanted, out, next)
+}
+
+// The line of the part count.
+fn put_count(x: u64, out: &mut [u8], at: usize) -> usize
+    requires { ⌜ at + 48 ≤ length (now out) ⌝ }
+    ensures { λ r. ⌜ Stored (consistent ++ (spaced (x ∷ []) ++ feed true)) (now (out .entry)) at (now (out .exit)) r ⌝ }
+{
+    let next = put(b"consistent", out, at);
+    put_last(true, x, out, next)
+}
+
+// The start of a part's line: its number and its path.
+fn put_path(part: u64, x: u64, out: &mut [u8], at: usize) -> usize
+    requires { ⌜ at + 48 ≤ length (now out) ⌝ }
+    ensures { λ r. ⌜ Stored (digits part ++ spaced (x ∷ [])) (now (out .entry)) at (now (out .exit)) r ⌝ }
+{
+    let next = put_digits(part, out, at);
+    put_spaced(x, out, next)
+}
+
+// The start of the line of evidence.
+fn put_first(last: bool, x: u64, out: &mut [u8], at: usize) -> usize
+    requires { ⌜ at + 48 ≤ length (now out) ⌝ }
+    ensures { λ r. ⌜ Stored (inconsistent ++ (spaced (x ∷ []) ++ feed last)) (now (out .entry)) at (now (out .exit)) r ⌝ }
+{
+    let next = put(b"inconsistent", out, at);
+    put_last(last, x, out, next)
+}
+
+// The text of a number by what it is; `last`: no number follows it.
+fn put_piece(stage: Stage, part: u64, left: u64, last: bool, x: u64, out: &mut [u8], at: usize) -> usize
+    requires { ⌜ at + 48 ≤ length (now out) ⌝ }
+    ensures { λ r. ⌜ Stored (pieceText stage part left last x) (now (out .entry)) at (now (out .exit)) r ⌝ }
+{
+    match stage {
+        Stage::Count => put_count(x, out, at),
+        Stage::Path => put_path(part, x, out, at),
+        Stage::Children => put_feed(x == 0, out, at),
+        Stage::Child => put_last(left <= 1, x, out, at),
+        Stage::First => put_first(last, x, out, at),
+        Stage::More => put_last(last, x, out, at),
+    }
 }
