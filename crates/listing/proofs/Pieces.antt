@@ -4,7 +4,7 @@ use mathlib.Core.Path.{_≡_, refl, sym, ap, _∙_}
 use mathlib.Core.Bool.{Bool, true, false}
 use mathlib.Core.List.{List, [], _∷_, _++_, append-nil}
 use native.Mathlib.Omega.{arith}
-use lib.ListN.{length}
+use lib.ListN.{length, length-append}
 use lib.Dec.{eqb, leb}
 use Rattle.listing.specs.declared.lay.Stage.{Stage}
 use Rattle.listing.specs.declared.lay.Stage.the-variants.{Count, Path, Children, Child, First, More}
@@ -12,7 +12,7 @@ use Rattle.listing.specs.Text.{digits, spaced, feed, Stored}
 use Rattle.listing.specs.Lay.{consistent, inconsistent, refusedWord, pieceText}
 use Rattle.listing.proofs.Puts.{digits-few, stored-length, stored-both}
 
-spaced-few : (x : ℕ) → length (spaced (x ∷ [])) ≤ 21
+pub spaced-few : (x : ℕ) → length (spaced (x ∷ [])) ≤ 21
 unfolding spaced
 spaced-few x = omega (arith, digits-few x, ap length (append-nil (digits x)))
 
@@ -64,3 +64,18 @@ module _ (stage : Stage) (part left : ℕ) (last : Bool) (x : ℕ) (out : List �
   piece-more e f = rw e f
 
 pub ruleset stage-laws = (piece-count, piece-path, piece-children, piece-child, piece-first, piece-more)
+
+feed-few : (wanted : Bool) → length (feed wanted) ≤ 1
+unfolding feed
+feed-few true = omega arith
+feed-few false = omega arith
+
+-- no number's text is longer than 48 bytes
+pub piece-few : (stage : Stage) (part left : ℕ) (last : Bool) (x : ℕ) → length (pieceText stage part left last x) ≤ 48
+unfolding pieceText consistent inconsistent
+piece-few Count part left last x = omega (arith, length-append (spaced (x ∷ [])) (feed true), spaced-few x, feed-few true)
+piece-few Path part left last x = omega (arith, length-append (digits part) (spaced (x ∷ [])), digits-few part, spaced-few x)
+piece-few Children part left last x = omega (arith, feed-few (eqb x 0))
+piece-few Child part left last x = omega (arith, length-append (spaced (x ∷ [])) (feed (leb left 1)), spaced-few x, feed-few (leb left 1))
+piece-few First part left last x = omega (arith, length-append (spaced (x ∷ [])) (feed last), spaced-few x, feed-few last)
+piece-few More part left last x = omega (arith, length-append (spaced (x ∷ [])) (feed last), spaced-few x, feed-few last)

@@ -6,7 +6,7 @@ ghost use mathlib.Core.List.{List, [], _∷_, _++_};
 ghost use lib.ListN.{length, drop};
 ghost use lib.Seq.{sets};
 ghost use Rattle.listing.specs.Text.{digits, spaced, feed, Stored};
-ghost use Rattle.listing.specs.Lay.{consistent, inconsistent, pieceText};
+ghost use Rattle.listing.specs.Lay.{consistent, inconsistent, pieceText, nextPart, placeAfter, Lays, LaysRefusal};
 
 
 use files::number::Number;
@@ -154,4 +154,75 @@ fn put_piece(stage: Stage, part: u64, left: u64, last: bool, x: u64, out: &mut [
         Stage::First => put_first(last, x, out, at),
         Stage::More => put_last(last, x, out, at),
     }
+}
+
+// The place after a part's line.
+fn next_part(next: usize, part: u64) -> Place
+    ensures { λ r. ⌜ r ≡ nextPart next part ⌝ }
+{
+    Place {
+        at: next,
+        stage: Stage::Path,
+        part: part % 65536 + 1,
+        left: 0,
+    }
+}
+
+// The place after a number x, by what it is; the next number stands at `next`.
+fn place_after(stage: Stage, next: usize, part: u64, left: u64, x: u64) -> Place
+    ensures { λ r. ⌜ r ≡ placeAfter stage next part left x ⌝ }
+{
+    match stage {
+        Stage::Count => Place { at: next, stage: Stage::Path, part: 0, left: 0 },
+        Stage::Path => Place { at: next, stage: Stage::Children, part, left: 0 },
+        Stage::Children => {
+            if x == 0 {
+                return next_part(next, part);
+            }
+            Place { at: next, stage: Stage::Child, part, left: x }
+        }
+        Stage::Child => {
+            if left <= 1 {
+                return next_part(next, part);
+            }
+            Place { at: next, stage: Stage::Child, part, left: left - 1 }
+        }
+        Stage::First => Place { at: next, stage: Stage::More, part: 0, left: 0 },
+        Stage::More => Place { at: next, stage: Stage::More, part: 0, left: 0 },
+    }
+}
+
+// The numbers from a place on laid out at the start of the block: as many as have 48 bytes of room before them.
+pub fn lay(bytes: &[u8], from: Place, out: &mut [u8]) -> Laid
+    ensures { λ r. ⌜ Lays (now (bytes .entry)) from (now (out .entry)) (now (out .exit)) r ⌝ }
+{
+    let mut place = from;
+    let mut length = 0usize;
+    while 48 <= out.len() - length {
+        let at = place.at;
+        match read_number(bytes, at) {
+            Number::Refused(_) => {
+                return Laid { place, length };
+            }
+            Number::Is(n, size) => {
+                let stage = place.stage;
+                let next = at + size;
+                length = put_piece(stage, place.part, place.left, bytes.len() <= next, n as u64, out, length);
+                place = place_after(stage, next, place.part, place.left, n as u64);
+            }
+        }
+    }
+    Laid { place, length }
+}
+
+// The line of a refusal laid out at the start of the block, and its length; nothing where there is less room than 64 bytes.
+pub fn lay_refusal(number: u64, place: u64, out: &mut [u8]) -> usize
+    ensures { λ r. ⌜ LaysRefusal number place (now (out .entry)) (now (out .exit)) r ⌝ }
+{
+    if out.len() < 64 {
+        return 0;
+    }
+    let next = put(b"refused", out, 0);
+    let after = put_spaced(number, out, next);
+    put_last(true, place, out, after)
 }
