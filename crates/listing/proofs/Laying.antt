@@ -137,6 +137,7 @@ module _ (s : List ℕ) (p₀ : Place) (out₀ out : List ℕ) (p : Place) (n : 
       { place = ap (λ (l : LaidText). l .place) all
       ; size = inv .used ∙ ap length text
       ; bytes = inv .bytes ∙ ap (sets out₀ 0) text
+      ; within = inv .fits
       }
 
   no-more : (most : ℕ) → length out₀ - n < 48 → lays most s (length out₀ - n) p ≡ laysNone p

@@ -105,6 +105,7 @@ pub record Lays (s : List ℕ) (p : Place) (out after : List ℕ) (r : Laid) : T
   pub place : r .place ≡ lays (length s) s (length out) p .place
   pub size : r .length ≡ length (lays (length s) s (length out) p .text)
   pub bytes : after ≡ sets out 0 (lays (length s) s (length out) p .text)
+  pub within : r .length ≤ length out
 
 -- what laying out a refusal answers, and the block after the call
 pub record LaysRefusal (k at : ℕ) (out after : List ℕ) (r : ℕ) : Type 0 where
