@@ -21,3 +21,4 @@ pub mod Kids
 pub mod Completeness
 pub mod HandedBack
 pub mod Equivalences
+pub mod Stepping

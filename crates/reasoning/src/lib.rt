@@ -1,1 +1,2 @@
 // Walks, dead paths, evidence, and the documents handed back.
+pub(crate) mod steps;
