@@ -22,3 +22,4 @@ pub mod Completeness
 pub mod HandedBack
 pub mod Equivalences
 pub mod Stepping
+pub mod Filling

@@ -22,12 +22,16 @@ ruleOf kind left right = record { kind = kind; left = left; right = right }
 unfoldable pub ruleList : (kind left right : List ℕ) → ℕ → List Rule
 ruleList kind left right many = rulesFrom kind left right 0 many
 
--- what a valid table says of its arrays: parents with smaller numbers, depths of at most 8, and rules over its paths
-pub record Sound (parent kind left right : List ℕ) (count many : ℕ) : Type 0 where
+-- what a valid table says of its parents: smaller numbers, and depths of at most 8
+pub record Parents (parent : List ℕ) (count : ℕ) : Type 0 where
   pub descending : Descending (parentOf parent)
   pub shallow : (x : ℕ) → x < count → depthOf (parentOf parent) x ≤ 8
   pub some : 0 < count
   pub few : count ≤ 64
+
+-- what it says of all its arrays
+pub record Sound (parent kind left right : List ℕ) (count many : ℕ) : Type 0 where
+  pub parents : Parents parent count
   pub fewRules : many ≤ 256
   pub rulesIn : RulesIn count (ruleList kind left right many)
 

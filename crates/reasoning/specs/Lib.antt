@@ -9,3 +9,4 @@ pub mod Least
 pub mod Decide
 pub mod Evidence
 pub mod Arrays
+pub mod Known
