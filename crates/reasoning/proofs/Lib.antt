@@ -21,3 +21,5 @@ pub mod Kids
 pub mod Completeness
 pub mod HandedBack
 pub mod Equivalences
+pub mod Stepping
+pub mod Filling
