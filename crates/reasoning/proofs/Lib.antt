@@ -1,6 +1,20 @@
 -- The laws of walks, of reachable sets, of the decisions, of evidence and of the documents handed back.
 pub mod Walks
 pub mod Written
+pub mod OneStep
+pub mod Reachable
+pub mod Cut
+pub mod Moves
+pub mod Search
+pub mod Least
+pub mod Decide
+pub mod Pairs
+pub mod RootPair
+pub mod Evidence
+pub mod Writes
+pub mod Shows
+pub mod EvidenceSize
+pub mod Answers
 pub mod Soundness
 pub mod Fill
 pub mod Kids

@@ -3,3 +3,8 @@ pub mod Written
 pub mod Required
 pub mod Parts
 pub mod Follows
+pub mod Reachable
+pub mod Search
+pub mod Least
+pub mod Decide
+pub mod Evidence
