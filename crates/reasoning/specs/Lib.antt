@@ -8,3 +8,5 @@ pub mod Search
 pub mod Least
 pub mod Decide
 pub mod Evidence
+pub mod Order
+pub mod Handed
