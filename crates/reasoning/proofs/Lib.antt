@@ -21,3 +21,7 @@ pub mod Kids
 pub mod Completeness
 pub mod HandedBack
 pub mod Equivalences
+pub mod Sorted
+pub mod HandedWords
+pub mod HandedKids
+pub mod HandedFill

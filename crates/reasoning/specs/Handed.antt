@@ -1,13 +1,16 @@
 -- The document handed back, computed from words: reachable sets R(c, x), a part's children as a word of goals, the parts
 -- present as a word of goals per path, and a part's number as a count of what stands before it.
-use Prim.Native.Nat.{ℕ, zero, suc, _+_, _-_}
+use Prim.Native.Nat.{ℕ, zero, suc, _+_, _-_, _^_, _<_}
+use mathlib.Core.Logic.{_↔_}
 use mathlib.Core.Bool.{Bool, true, false, not, _&&_}
 use mathlib.Core.List.{List, [], _∷_, _++_, map}
 use lib.Dec.{eqb, ltb}
 use lib.ListN.{length, getD}
 use lib.Count.{leadingZeros}
+use Rattle.files.specs.Table.{Rule}
 use Rattle.files.specs.Sets.{
   bit,
+  Has,
   hasb,
   withPath,
   withoutPath,
@@ -20,9 +23,19 @@ use Rattle.files.specs.Sets.{
   size,
   members,
 }
-use Rattle.documents.specs.Paths.{contextOf, towards, depthOf}
+use Rattle.documents.specs.Paths.{Below, contextOf, towards, depthOf}
 use Rattle.documents.specs.PartList.{Entry}
+use Rattle.reasoning.specs.Walk.{Reach}
 use Rattle.reasoning.specs.Reachable.{subtree}
+
+-- R gives, for a path c and a path x of the table below it, the set of the paths reachable from x inside c
+pub record ReachWords (parent : ℕ → ℕ) (rules : List Rule) (count : ℕ) (R : ℕ → ℕ → ℕ) : Type 0 where
+  pub small : (c x : ℕ) → Below parent c x → x < count → R c x < 2 ^ 64
+  pub exactly : (c x y : ℕ) → Below parent c x → x < count → Has (R c x) y ↔ Reach parent rules c x y
+
+-- whether the sets of R say that y is reachable from x inside c
+abbrev pub wordReach : (R : ℕ → ℕ → ℕ) (c x y : ℕ) → Bool
+wordReach R c x y = hasb (R c x) y
 
 -- the greatest path of a set that is not empty
 unfoldable pub highest : ℕ → ℕ
