@@ -25,3 +25,5 @@ pub mod Sorted
 pub mod HandedWords
 pub mod HandedKids
 pub mod HandedFill
+pub mod HandedRows
+pub mod HandedNamed
