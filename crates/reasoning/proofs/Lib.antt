@@ -27,3 +27,4 @@ pub mod HandedKids
 pub mod HandedFill
 pub mod HandedRows
 pub mod HandedNamed
+pub mod Order

@@ -89,6 +89,18 @@ module _ {A : Type 0} where
               let e : a ≡ b = numbered-unique (subst (λ (z : ℕ). NumberedIn l z a) n m) k in
               absurd (asym a a (subst (λ (z : A). Before a z) (sym e) h) (subst (λ (z : A). Before a z) (sym e) h))
 
+      -- a member of a sorted list has one number
+      pub sorted-number : {l : List A} {i j : ℕ} {a : A} → Sorted Before l → NumberedIn l i a → NumberedIn l j a → i ≡ j
+      sorted-number {l} {i} {j} {a} s m k = pick (decLt i j) (decLt j i)
+        where
+          never : Before a a → ⊥
+          never h = asym a a h h
+
+          pick : Dec (i < j) → Dec (j < i) → i ≡ j
+          pick (yes p) q = absurd (never (sorted-before s m k p))
+          pick (no p) (yes q) = absurd (never (sorted-before s k m q))
+          pick (no p) (no q) = omega arith
+
       tail-into : {a b : A} {l m : List A} → a ≡ b → ((x : A) → List·Memᴰ x l → Before a x)
           → ((x : A) → List·Memᴰ x (a ∷ l) → List·Memᴰ x (b ∷ m)) → (x : A) → List·Memᴰ x l → List·Memᴰ x m
       tail-into {a} {b} {l} {m} e h into x n = pick (List·Memᴰ·cases-cons (into x (List·Memᴰ·tail n)))
@@ -198,7 +210,7 @@ module _ {A B : Type 0} {Fit : A → B → Type 0} where
   matches-right (Matches.next {b = b} h m) NumberedIn.first = (b, NumberedIn.first, h)
   matches-right (Matches.next h m) (NumberedIn.later k) = let r = matches-right m k in (r .0, NumberedIn.later (r .1), r .2)
 
-  matches-partner : {l : List A} {m : List B} {b : B} → Matches Fit l m → List·Memᴰ b m → (a : A) × List·Memᴰ a l × Fit a b
+  pub matches-partner : {l : List A} {m : List B} {b : B} → Matches Fit l m → List·Memᴰ b m → (a : A) × List·Memᴰ a l × Fit a b
   matches-partner (Matches.next {a = a} h m) (List·Memᴰ·head e) = (a, List·Memᴰ·head refl, subst (Fit a) (sym e) h)
   matches-partner (Matches.next h m) (List·Memᴰ·tail k) = let r = matches-partner m k in (r .0, List·Memᴰ·tail (r .1), r .2)
 
