@@ -28,3 +28,4 @@ pub mod HandedFill
 pub mod HandedRows
 pub mod HandedNamed
 pub mod Order
+pub mod HandedOrder
