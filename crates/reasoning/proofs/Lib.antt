@@ -29,3 +29,4 @@ pub mod HandedRows
 pub mod HandedNamed
 pub mod Order
 pub mod HandedOrder
+pub mod Handed
