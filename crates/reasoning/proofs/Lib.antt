@@ -30,3 +30,5 @@ pub mod HandedNamed
 pub mod Order
 pub mod HandedOrder
 pub mod Handed
+pub mod HandedTree
+pub mod HandedDocuments
