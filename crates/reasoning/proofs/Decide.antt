@@ -1,5 +1,5 @@
 -- A path is computed to be dead exactly if it is, with the least y and then the least rule.
-use Prim.Native.Nat.{ℕ, zero, suc, _≤_, _<_}
+use Prim.Native.Nat.{ℕ, zero, suc, _^_, _≤_, _<_}
 use mathlib.Core.Path.{_≡_, refl, sym, subst}
 use mathlib.Core.Logic.{_↔_}
 use mathlib.Core.Bool.{Bool, _&&_}
@@ -9,15 +9,30 @@ use lib.Dec.{T, eqb, eqb→eq, ltb→lt}
 use lib.Ieee.Fits.{and-i, and-l, and-r}
 use lib.ListN.{length}
 use Rattle.files.specs.Table.{Rule, Numbered, first, later}
-use Rattle.files.specs.Sets.{hasb}
+use Rattle.files.specs.Sets.{Has, lowest}
+use Rattle.files.proofs.SetBits.{has-common, common-lt}
+use Rattle.files.proofs.SetLowest.{lowest-first}
 use Rattle.documents.specs.Paths.{Context, contextOf}
 use Rattle.documents.proofs.Paths.{below-le, contextOf-context, context-is}
 use Rattle.reasoning.specs.Walk.{Reach, DeadBy, Dead}
 use Rattle.reasoning.specs.Reachable.{Fits, reachable, reachb}
-use Rattle.reasoning.specs.Decide.{ruleAt, LeastDead, bothFrom, clashb, clashRule, clashes, deadPath, deadRule, isDead}
+use Rattle.reasoning.specs.Least.{passing}
+use Rattle.reasoning.specs.Decide.{
+  ruleAt,
+  LeastDead,
+  bothFrom,
+  clashb,
+  clashRule,
+  clashes,
+  clashing,
+  clashesFrom,
+  deadPath,
+  deadRule,
+  isDead,
+}
 use Rattle.reasoning.proofs.Walks.{numbered-lt, reach-start}
-use Rattle.reasoning.proofs.Reachable.{T-hasb, reachable-iff, reachb-iff, walk-in-table}
-use Rattle.reasoning.proofs.Least.{least-passes, least-least, least-some}
+use Rattle.reasoning.proofs.Reachable.{reachable-iff, reachable-small, reachb-iff, walk-in-table}
+use Rattle.reasoning.proofs.Least.{least-passes, least-least, least-some, passing-iff, some-lowest, has-some}
 
 -- a rule's number gives the rule
 pub ruleAt-numbered : {rules : List Rule} {r : ℕ} {ru : Rule} → Numbered rules r ru → ruleAt rules r ≡ ru
@@ -182,55 +197,49 @@ module _ {parent : ℕ → ℕ} {rules : List Rule} {count : ℕ} (fits : Fits p
   clash-least y r h d = least-least (clashb parent rules count y) (length rules) r (clashb-iff y r h .1 d)
 
   module _ (p : ℕ) (given : p < count) where
-    root-in-table : 0 < count
-    root-in-table = omega arith
+    -- the clashing paths that are reachable from p
+    from-iff : (y : ℕ) → Has (clashesFrom parent rules count p) y ↔ (Reach parent rules 0 p y × T (clashes parent rules count y))
+    unfolding clashesFrom clashing
+    from-iff y =
+        let s = reachable parent rules count 0 p in
+        let both = has-common s (passing (clashes parent rules count) count) y in
+        let is = reachable-iff fits 0 p (omega arith) given y in
+        let clash = passing-iff (clashes parent rules count) count y (fits .few) in (
+          λ h. (is .0 (both .0 h .0), clash .0 (both .0 h .1) .1),
+          λ d. both .1 (is .1 (d .0), clash .1 (walk-in-table fits given (d .0 .walk), d .1)),
+        )
 
-    deadTest : ℕ → Bool
-    deadTest y = hasb (reachable parent rules count 0 p) y && clashes parent rules count y
+    from-small : clashesFrom parent rules count p < 2 ^ 64
+    unfolding clashesFrom
+    from-small = common-lt (reachable parent rules count 0 p) (clashing parent rules count) (reachable-small fits 0 p (omega arith) given)
 
-    -- the test at one path
-    dead-test-iff : (y : ℕ) → T (deadTest y) ↔ (Reach parent rules 0 p y × T (clashes parent rules count y))
-    unfolding deadTest
-    dead-test-iff y =
-        let here = hasb (reachable parent rules count 0 p) y in
-        let clash = clashes parent rules count y in
-        let is = reachable-iff fits 0 p root-in-table given y in
-        let member = T-hasb (reachable parent rules count 0 p) y in
-        (λ t. (is .0 (member .0 (and-l here clash t)), and-r here clash t), λ d. and-i here clash (member .1 (is .1 (d .0))) (d .1))
+    by-from : (y r : ℕ) → DeadBy parent rules p y r → Has (clashesFrom parent rules count p) y
+    by-from y r d = from-iff y .1 (d .here, some-clash y r (walk-in-table fits given (d .here .walk)) (dead-clash d))
 
-    by-test : (y r : ℕ) → DeadBy parent rules p y r → T (deadTest y)
-    by-test y r d =
-        dead-test-iff y .1 (d .here, some-clash y r (walk-in-table fits given (d .here .walk)) (dead-clash d))
-
-    -- a path shown dead has its least showing, as computed
-    pub dead-least : (y r : ℕ) → DeadBy parent rules p y r
-        → LeastDead parent rules p (deadPath parent rules count p) (deadRule parent rules count p)
-    unfolding deadPath deadRule deadTest
-    dead-least y r d =
-        let low = least-least deadTest count y (by-test y r d) in
-        let inTable : y < count = walk-in-table fits given (d .here .walk) in
-        let under : deadPath parent rules count p < count = omega arith in
-        let found = dead-test-iff (deadPath parent rules count p) .0 (least-passes deadTest count under) in
-        record {
-          by = clash-dead (found .0) (least-clash (deadPath parent rules count p) under (found .1));
-          leastPath = λ z s e. least-least deadTest count z (by-test z s e);
-          leastRule = λ s e. clash-least (deadPath parent rules count p) s under (dead-clash e);
-        }
+    -- where some path shows p dead, the least does, by the least rule
+    shown : T (isDead parent rules count p) → DeadBy parent rules p (deadPath parent rules count p) (deadRule parent rules count p)
+    unfolding isDead deadPath deadRule
+    shown t =
+        let y = lowest (clashesFrom parent rules count p) in
+        let found = from-iff y .0 (some-lowest (clashesFrom parent rules count p) from-small t) in
+        clash-dead (found .0) (least-clash y (walk-in-table fits given (found .0 .walk)) (found .1))
 
     -- the test decides dead
     pub isDead-iff : T (isDead parent rules count p) ↔ Dead parent rules p
-    unfolding isDead deadPath deadTest
-    isDead-iff = (to, back)
-      where
-        back : Dead parent rules p → T (isDead parent rules count p)
-        back d = least-some deadTest count (d .y) (walk-in-table fits given (d .by .here .walk)) (by-test (d .y) (d .r) (d .by))
+    unfolding isDead
+    isDead-iff = (
+      λ t. record { y = deadPath parent rules count p; r = deadRule parent rules count p; by = shown t },
+      λ d. has-some (clashesFrom parent rules count p) (d .y) (by-from (d .y) (d .r) (d .by)),
+    )
 
-        to : T (isDead parent rules count p) → Dead parent rules p
-        to t =
-            let under = ltb→lt (deadPath parent rules count p) count t in
-            let found = dead-test-iff (deadPath parent rules count p) .0 (least-passes deadTest count under) in
-            record {
-              y = deadPath parent rules count p;
-              r = clashRule parent rules count (deadPath parent rules count p);
-              by = clash-dead (found .0) (least-clash (deadPath parent rules count p) under (found .1));
-            }
+    -- a dead path has its least showing, as computed
+    pub dead-least : Dead parent rules p
+        → LeastDead parent rules p (deadPath parent rules count p) (deadRule parent rules count p)
+    unfolding deadPath deadRule
+    dead-least d =
+        let by = shown (isDead-iff .1 d) in
+        record {
+          by = by;
+          leastPath = λ z s e. lowest-first (clashesFrom parent rules count p) z (by-from z s e);
+          leastRule = λ s e. clash-least (deadPath parent rules count p) s (walk-in-table fits given (by .here .walk)) (dead-clash e);
+        }

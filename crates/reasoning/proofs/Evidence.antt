@@ -105,7 +105,7 @@ module _ {parent : ℕ → ℕ} {rules : List Rule} {count : ℕ} (fits : Fits p
   pub dead-written : (p : ℕ) → p < count → Dead parent rules p → WritesDead parent rules p (deadNumbers parent rules count p)
   unfolding deadNumbers
   dead-written p h d =
-      let l = dead-least fits p h (d .y) (d .r) (d .by) in
+      let l = dead-least fits p h d in
       record {
         y = deadPath parent rules count p;
         r = deadRule parent rules count p;
@@ -117,7 +117,7 @@ module _ {parent : ℕ → ℕ} {rules : List Rule} {count : ℕ} (fits : Fits p
   pub dead-only : (p : ℕ) {numbers : List ℕ} → p < count → WritesDead parent rules p numbers → numbers ≡ deadNumbers parent rules count p
   unfolding deadNumbers
   dead-only p h d =
-      let l = dead-least fits p h (d .y) (d .r) (d .least .by) in
+      let l = dead-least fits p h (record { y = d .y; r = d .r; by = d .least .by }) in
       let same = least-dead-unique (d .least) l in
       rw (← same .0, ← same .1) (dead-numbers-only h (d .by))
 

@@ -1,11 +1,16 @@
--- The laws of the least number that passes a test.
-use Prim.Native.Nat.{ℕ, zero, suc, _+_, _≤_, _<_}
+-- The laws of the least number that passes a test, and of the set of those that pass.
+use Prim.Native.Nat.{ℕ, zero, suc, _+_, _^_, _≤_, _<_}
 use mathlib.Core.Path.{_≡_, refl}
+use mathlib.Core.Logic.{_⊎_, inl, inr, _↔_}
 use mathlib.Core.Bool.{Bool, true, false}
 use native.Mathlib.Omega.{arith}
+use native.Mathlib.Nat.{eq-zero-or-pos}
 use native.Mathlib.Decide.{decLt, ℕ-discrete}
-use lib.Dec.{T, ltb, lt→ltb}
-use Rattle.reasoning.specs.Least.{firstFrom, least}
+use lib.Dec.{T, eqb, ltb, eqb→eq, not-T, lt→ltb, lit<}
+use Rattle.files.specs.Sets.{Has, lowest}
+use Rattle.files.proofs.SetBits.{has-with, with-lt, not-has, bit-of-zero}
+use Rattle.files.proofs.SetLowest.{has-lowest}
+use Rattle.reasoning.specs.Least.{firstFrom, least, passing, someIn}
 
 module _ (test : ℕ → Bool) where
   -- the first number, at or after `at`, that passes; past the last it is one that need not
@@ -68,3 +73,53 @@ module _ (test : ℕ → Bool) where
   -- some number below n passes exactly if the least is below n
   pub least-some : (n k : ℕ) → k < n → T (test k) → T (ltb (least test n) n)
   least-some n k h t = lt→ltb (least test n) n (omega (arith, least-least n k t))
+
+  -- the set of the paths below n that pass
+  pub passing-iff : (n x : ℕ) → n ≤ 64 → Has (passing test n) x ↔ ((x < n) × T (test x))
+  unfolding passing
+  passing-iff zero x l = (λ h. absurd (not-has (bit-of-zero x) h), λ h. absurd (omega (arith, h .0)))
+  passing-iff (suc n) x l = pick (test n) refl (passing-iff n x (omega arith))
+    where
+      pick : (b : Bool) → test n ≡ b → Has (passing test n) x ↔ ((x < n) × T (test x))
+          → Has (passing test (suc n)) x ↔ ((x < suc n) × T (test x))
+      pick true e again = rw (passing, e) (
+        λ h. out (has-with (passing test n) n x (omega arith) .0 h),
+        λ h. has-with (passing test n) n x (omega arith) .1 (into h (ℕ-discrete x n)),
+      )
+        where
+          out : (x ≡ n) ⊎ Has (passing test n) x → (x < suc n) × T (test x)
+          out (inl p) = (omega arith, rw (p, e) tt)
+          out (inr h) = (omega (arith, again .0 h .0), again .0 h .1)
+
+          into : (x < suc n) × T (test x) → Dec (x ≡ n) → (x ≡ n) ⊎ Has (passing test n) x
+          into h (yes p) = inl p
+          into h (no d) = inr (again .1 (omega (arith, h .0), h .1))
+      pick false e again = rw (passing, e) (λ h. (omega (arith, again .0 h .0), again .0 h .1), λ h. into h (ℕ-discrete x n))
+        where
+          into : (x < suc n) × T (test x) → Dec (x ≡ n) → Has (passing test n) x
+          into h (yes p) = absurd (rw (p, e) at (h .1))
+          into h (no d) = again .1 (omega (arith, h .0), h .1)
+
+  -- it is a word of 64 bits
+  pub passing-small : (n : ℕ) → passing test n < 2 ^ 64
+  unfolding passing
+  passing-small zero = lit< tt
+  passing-small (suc n) = pick (test n) refl (passing-small n)
+    where
+      pick : (b : Bool) → test n ≡ b → passing test n < 2 ^ 64 → passing test (suc n) < 2 ^ 64
+      pick true e again = rw (passing, e) (with-lt (passing test n) n again)
+      pick false e again = rw (passing, e) again
+
+-- a set that has a path has a least one
+pub some-lowest : (w : ℕ) → w < 2 ^ 64 → T (someIn w) → Has w (lowest w)
+unfolding someIn
+some-lowest w h t = has-lowest w (pick (eq-zero-or-pos w)) h
+  where
+    pick : (w ≡ 0) ⊎ (0 < w) → 0 < w
+    pick (inl e) = absurd (rw e at t)
+    pick (inr l) = l
+
+-- a set with a path has one
+pub has-some : (w i : ℕ) → Has w i → T (someIn w)
+unfolding someIn
+has-some w i h = not-T (eqb w 0) (λ t. not-has (bit-of-zero i) (rw (eqb→eq w 0 t) at h))

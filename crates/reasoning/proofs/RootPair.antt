@@ -1,21 +1,24 @@
 -- The root pair of an inconsistent set and its lowest dead path are computed exactly if there are such.
-use Prim.Native.Nat.{ℕ, _≤_, _<_}
+use Prim.Native.Nat.{ℕ, _^_, _≤_, _<_}
 use mathlib.Core.Path.{_≡_, refl, sym, subst}
-use mathlib.Core.Logic.{_⊎_, inl, inr, _↔_}
+use mathlib.Core.Logic.{_⊎_, inl, inr, _↔_, Iff·trans, Iff·symm}
 use mathlib.Core.Bool.{Bool, _&&_}
 use mathlib.Core.List.{List, [], _∷_, List·Memᴰ, List·Memᴰ·cases-cons, List·Memᴰ·not-nil, List·Memᴰ·head, List·Memᴰ·tail}
 use native.Mathlib.Omega.{arith}
-use lib.Dec.{T, eqb, ltb, eqb→eq, ltb→lt, lt→ltb}
+use lib.Dec.{lit<, T, eqb, ltb, eqb→eq, ltb→lt, lt→ltb}
 use lib.Ieee.Fits.{and-i, and-l, and-r}
 use lib.ListN.{length}
 use Rattle.files.specs.Table.{Rule}
-use Rattle.files.specs.Sets.{Has, hasb}
-use Rattle.files.proofs.SetBits.{has-with, not-has, bit-of-zero}
+use Rattle.files.specs.Sets.{Has, hasb, common, lowest, withPath, members}
+use Rattle.files.proofs.SetBits.{has-with, with-lt, has-under, same-sets, not-has, bit-of-zero, has-common, common-lt}
+use Rattle.files.proofs.SetMembers.{mem-members}
+use Rattle.files.proofs.SetLowest.{lowest-first}
 use Rattle.documents.specs.Paths.{same, Context, contextOf}
 use Rattle.documents.proofs.Paths.{below-zero, contextOf-context, context-is}
 use Rattle.reasoning.specs.Walk.{Reach, Dead, PairBy}
 use Rattle.reasoning.specs.Required.{Needed, root, listed}
 use Rattle.reasoning.specs.Reachable.{Fits, reachb}
+use Rattle.reasoning.specs.Least.{passing}
 use Rattle.reasoning.specs.Decide.{
   RootPair,
   LeastRootPair,
@@ -31,10 +34,11 @@ use Rattle.reasoning.specs.Decide.{
   isDead,
   deadAsked,
   isAskedDead,
+  deadPaths,
 }
 use Rattle.reasoning.proofs.Walks.{numbered-lt}
 use Rattle.reasoning.proofs.Reachable.{T-hasb, reachb-iff}
-use Rattle.reasoning.proofs.Least.{least-passes, least-least, least-some}
+use Rattle.reasoning.proofs.Least.{least-passes, least-least, least-some, passing-iff, passing-small, some-lowest, has-some}
 use Rattle.reasoning.proofs.Decide.{ruleAt-numbered, AbsenceWith, absence-test, isDead-iff}
 
 -- the set asked for has the paths that every document asked for has
@@ -70,6 +74,28 @@ askedIn-iff (a ∷ rest) low x =
     into : (Needed rest x → Has (askedIn rest) x) → Needed (a ∷ rest) x → (x ≡ a) ⊎ Has (askedIn rest) x
     into again (root e) = inr (again (root e))
     into again (listed m) = tail-of again (List·Memᴰ·cases-cons m)
+
+askedIn-small : (required : List ℕ) → askedIn required < 2 ^ 64
+unfolding askedIn
+askedIn-small [] = with-lt 0 0 (lit< tt)
+askedIn-small (x ∷ rest) = with-lt (askedIn rest) x (askedIn-small rest)
+
+-- where the required paths are the members of a set, it is that set with the root
+pub askedIn-members : (w : ℕ) → w < 2 ^ 64 → askedIn (members w) ≡ withPath w 0
+askedIn-members w h =
+    same-sets (askedIn (members w)) (withPath w 0) (askedIn-small (members w)) (with-lt w 0 h) (λ x l. Iff·trans (asked x)
+    (Iff·trans (λ n. in-or-root x n, λ n. needed x n) (Iff·symm (has-with w 0 x (omega arith)))))
+  where
+    asked : (x : ℕ) → Has (askedIn (members w)) x ↔ Needed (members w) x
+    asked = askedIn-iff (members w) (λ x m. has-under w 64 x h (mem-members w x h .0 m))
+
+    in-or-root : (x : ℕ) → Needed (members w) x → (x ≡ 0) ⊎ Has w x
+    in-or-root x (root e) = inl e
+    in-or-root x (listed m) = inr (mem-members w x h .0 m)
+
+    needed : (x : ℕ) → (x ≡ 0) ⊎ Has w x → Needed (members w) x
+    needed x (inl e) = root e
+    needed x (inr m) = listed (mem-members w x h .1 m)
 
 -- there is one least root pair
 pub least-root-pair-unique : {parent : ℕ → ℕ} {rules : List Rule} {asked x y r u v s : ℕ} → LeastRootPair parent rules asked x y r
@@ -209,39 +235,33 @@ module _ {parent : ℕ → ℕ} {rules : List Rule} {count : ℕ} (fits : Fits p
     λ d. least-some (rootb parent rules count asked) (length rules) (d .2) (numbered-lt (d .3 .by .rule)) (root-test (d .3)),
   )
 
-  deadTest : ℕ → Bool
-  deadTest x = hasb asked x && isDead parent rules count x
-
-  dead-test : (x : ℕ) → Has asked x → Dead parent rules x → T (deadTest x)
-  unfolding deadTest
-  dead-test x h d =
-      and-i (hasb asked x) (isDead parent rules count x) (T-hasb asked x .1 h) (isDead-iff fits x (inTable x h) .1 d)
+  -- the dead paths asked for
+  dead-asked-iff : (x : ℕ) → Has (common (deadPaths parent rules count) asked) x ↔ (Has asked x × Dead parent rules x)
+  unfolding deadPaths
+  dead-asked-iff x =
+      let both = has-common (passing (isDead parent rules count) count) asked x in
+      let passes = passing-iff (isDead parent rules count) count x (fits .few) in (
+        λ h. (both .0 h .1, isDead-iff fits x (inTable x (both .0 h .1)) .0 (passes .0 (both .0 h .0) .1)),
+        λ d. both .1 (passes .1 (inTable x (d .0), isDead-iff fits x (inTable x (d .0)) .1 (d .1)), d .0),
+      )
 
   -- where a dead path is asked for, the computed one is the lowest
-  pub dead-asked-lowest : (x : ℕ) → Has asked x → Dead parent rules x → LowestDead parent rules asked (deadAsked parent rules count asked)
-  unfolding deadAsked deadTest
-  dead-asked-lowest x h d =
-      let z = deadAsked parent rules count asked in
-      let low = least-least deadTest count x (dead-test x h d) in
-      let under : z < count = omega (arith, inTable x h) in
-      let t = least-passes deadTest count under in
+  pub dead-asked-lowest : T (isAskedDead parent rules count asked) → LowestDead parent rules asked (deadAsked parent rules count asked)
+  unfolding isAskedDead deadAsked deadPaths
+  dead-asked-lowest t =
+      let w = common (deadPaths parent rules count) asked in
+      let small = common-lt (deadPaths parent rules count) asked (passing-small (isDead parent rules count) count) in
+      let found = dead-asked-iff (lowest w) .0 (some-lowest w small t) in
       record {
-        member = T-hasb asked z .0 (and-l (hasb asked z) (isDead parent rules count z) t);
-        dead = isDead-iff fits z under .0 (and-r (hasb asked z) (isDead parent rules count z) t);
-        lowest = λ v k e. least-least deadTest count v (dead-test v k e);
+        member = found .0;
+        dead = found .1;
+        lowest = λ z h d. lowest-first w z (dead-asked-iff z .1 (h, d));
       }
 
   -- the test decides whether a path asked for is dead
   pub isAskedDead-iff : T (isAskedDead parent rules count asked) ↔ ((x : ℕ) × Has asked x × Dead parent rules x)
-  unfolding isAskedDead deadAsked deadTest
-  isAskedDead-iff = (to, λ d. least-some deadTest count (d .0) (inTable (d .0) (d .1)) (dead-test (d .0) (d .1) (d .2)))
-    where
-      to : T (isAskedDead parent rules count asked) → (x : ℕ) × Has asked x × Dead parent rules x
-      to t =
-          let z = deadAsked parent rules count asked in
-          let under = ltb→lt z count t in
-          let p = least-passes deadTest count under in (
-            z,
-            T-hasb asked z .0 (and-l (hasb asked z) (isDead parent rules count z) p),
-            isDead-iff fits z under .0 (and-r (hasb asked z) (isDead parent rules count z) p),
-          )
+  unfolding isAskedDead
+  isAskedDead-iff = (
+    λ t. let l = dead-asked-lowest t in (deadAsked parent rules count asked, l .member, l .dead),
+    λ d. has-some (common (deadPaths parent rules count) asked) (d .0) (dead-asked-iff (d .0) .1 (d .1, d .2)),
+  )

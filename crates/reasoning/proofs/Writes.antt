@@ -293,7 +293,7 @@ module _ {parent : ℕ → ℕ} {rules : List Rule} {count : ℕ} (fits : Fits p
             → WritesInconsistent parent rules asked (inconsistentNumbers parent rules count asked)
         pick (holds e d) k = rw (inconsistentNumbers, e) (by-pair (d .3))
         pick (fails e n) (holds f d) =
-            let l = dead-asked-lowest fits asked some-path inTable (d .0) (d .1) (d .2) in
+            let l = dead-asked-lowest fits asked some-path inTable (rw f tt) in
             rw (inconsistentNumbers, e) (WritesInconsistent.dead (λ x y r k. n (x, y, r, k)) (deadAsked parent rules count asked) l
             (dead-written fits (deadAsked parent rules count asked) (inTable _ (l .member)) (l .dead)))
         pick (fails e n) (fails f m) = absurd (never (consistent-iff .1 (λ x y r d. n (x, y, r, d), λ x h d. m (x, h, d))))
@@ -313,7 +313,8 @@ module _ {parent : ℕ → ℕ} {rules : List Rule} {count : ℕ} (fits : Fits p
         pick (WritesInconsistent.pair x y r l d) (fails e n) = absurd (n (x, y, r, l .by))
         pick (WritesInconsistent.dead n x l d) (holds e k) = absurd (n (k .0) (k .1) (k .2) (k .3))
         pick (WritesInconsistent.dead n x l d) (fails e m) =
-            let low = dead-asked-lowest fits asked some-path inTable x (l .member) (l .dead) in
+            let low = dead-asked-lowest fits asked some-path inTable
+            (isAskedDead-iff fits asked some-path inTable .1 (x, l .member, l .dead)) in
             let same : x ≡ deadAsked parent rules count asked =
             omega (arith, l .lowest (deadAsked parent rules count asked) (low .member) (low .dead), low .lowest x (l .member) (l .dead)) in
             rw (inconsistentNumbers, e, ← same) (dead-only fits x (inTable x (l .member)) d)

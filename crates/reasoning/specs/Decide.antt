@@ -6,11 +6,11 @@ use mathlib.Core.List.{List, [], _∷_}
 use lib.Dec.{eqb, ltb}
 use lib.ListN.{length, getD}
 use Rattle.files.specs.Table.{Rule}
-use Rattle.files.specs.Sets.{Has, hasb, withPath}
+use Rattle.files.specs.Sets.{Has, hasb, withPath, common, lowest}
 use Rattle.documents.specs.Paths.{belowb, contextOf}
 use Rattle.reasoning.specs.Walk.{Dead, DeadBy, PairBy}
 use Rattle.reasoning.specs.Reachable.{reachable, reachb}
-use Rattle.reasoning.specs.Least.{least}
+use Rattle.reasoning.specs.Least.{least, passing, someIn}
 
 -- no rule: what stands past the end of the rules
 abbrev pub noRule : Rule
@@ -79,17 +79,29 @@ module _ (parent : ℕ → ℕ) (rules : List Rule) (count : ℕ) where
   unfoldable pub clashes : (y : ℕ) → Bool
   clashes y = ltb (clashRule y) (length rules)
 
-  -- the least path reachable from p inside the root at which a rule clashes; the number of paths if there is none
+  -- the paths at which some rule clashes
+  unfoldable pub clashing : ℕ
+  clashing = passing clashes count
+
+  -- the paths reachable from p inside the root at which some rule clashes
+  unfoldable pub clashesFrom : (p : ℕ) → ℕ
+  clashesFrom p = common (reachable parent rules count 0 p) clashing
+
+  -- whether p is dead
+  unfoldable pub isDead : (p : ℕ) → Bool
+  isDead p = someIn (clashesFrom p)
+
+  -- the least path that shows p dead, if p is
   unfoldable pub deadPath : (p : ℕ) → ℕ
-  deadPath p = let s = reachable parent rules count 0 p in least (λ y. hasb s y && clashes y) count
+  deadPath p = lowest (clashesFrom p)
 
   -- the least rule that clashes there
   unfoldable pub deadRule : (p : ℕ) → ℕ
   deadRule p = clashRule (deadPath p)
 
-  -- whether p is dead
-  unfoldable pub isDead : (p : ℕ) → Bool
-  isDead p = ltb (deadPath p) count
+  -- the dead paths
+  unfoldable pub deadPaths : ℕ
+  deadPaths = passing isDead count
 
   -- the left side of a rule is reachable from p, and the right side from q, inside the rule's context, a prefix of c
   unfoldable pub sidesFrom : (ru : Rule) (c p q : ℕ) → Bool
@@ -135,17 +147,18 @@ module _ (parent : ℕ → ℕ) (rules : List Rule) (count : ℕ) where
   unfoldable pub isRootPair : (asked : ℕ) → Bool
   isRootPair asked = ltb (rootRule asked) (length rules)
 
-  -- the lowest paths asked for that reach the two sides of rule number r
+  -- the lowest path asked for that reaches the left side of rule number r
   unfoldable pub rootFirst : (asked r : ℕ) → ℕ
   rootFirst asked r = reacher asked (ruleAt rules r .left)
 
+  -- the lowest path asked for that reaches the right side of rule number r
   unfoldable pub rootSecond : (asked r : ℕ) → ℕ
   rootSecond asked r = reacher asked (ruleAt rules r .right)
 
-  -- the lowest dead path asked for; the number of paths if there is none
-  unfoldable pub deadAsked : (asked : ℕ) → ℕ
-  deadAsked asked = least (λ x. hasb asked x && isDead x) count
-
   -- whether a path asked for is dead
   unfoldable pub isAskedDead : (asked : ℕ) → Bool
-  isAskedDead asked = ltb (deadAsked asked) count
+  isAskedDead asked = someIn (common deadPaths asked)
+
+  -- the lowest dead path asked for, if there is one
+  unfoldable pub deadAsked : (asked : ℕ) → ℕ
+  deadAsked asked = lowest (common deadPaths asked)

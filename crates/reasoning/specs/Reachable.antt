@@ -40,7 +40,7 @@ unfoldable pub head : Way → (parent : ℕ → ℕ) → ℕ → ℕ
 head onward parent x = parent x
 head backward parent x = x
 
--- the paths of x, x + 1, .., `left` of them, whose parents are in the set w join it
+-- of the `left` paths from x on, in ascending order, each whose parent is in the set w joins it
 unfoldable pub joinChildren : (parent : ℕ → ℕ) (left x w : ℕ) → ℕ
 joinChildren parent zero x w = w
 joinChildren parent (suc left) x w =
