@@ -5,7 +5,7 @@ use mathlib.Core.Logic.{_↔_}
 use mathlib.Core.Bool.{Bool, true, false, not, _&&_}
 use mathlib.Core.List.{List, [], _∷_, _++_, map}
 use lib.Dec.{eqb, ltb}
-use lib.ListN.{length, getD}
+use lib.ListN.{getD}
 use lib.Count.{leadingZeros}
 use Rattle.files.specs.Table.{Rule}
 use Rattle.files.specs.Sets.{
@@ -24,7 +24,7 @@ use Rattle.files.specs.Sets.{
   members,
 }
 use Rattle.documents.specs.Paths.{Below, contextOf, towards, depthOf}
-use Rattle.documents.specs.PartList.{Entry}
+use Rattle.documents.specs.PartList.{Entry, documentNumbers}
 use Rattle.reasoning.specs.Walk.{Reach}
 use Rattle.reasoning.specs.Reachable.{subtree}
 
@@ -210,10 +210,6 @@ handedEntries parent count R start =
     let order = pathOrder parent count in
     eachOf (entriesOn parent count R start all rows order) order
 
--- a part in numbers: its path, its child count and its children
-unfoldable pub entryNumbers : Entry → List ℕ
-entryNumbers e = e .path ∷ (length (e .kids) ∷ e .kids)
-
--- a document in numbers: its part count and its parts
-unfoldable pub documentNumbers : List Entry → List ℕ
-documentNumbers es = length es ∷ eachOf entryNumbers es
+-- the document in numbers: its part count, then of each part its path, its child count and its children
+unfoldable pub handedNumbers : (parent : ℕ → ℕ) (count : ℕ) (R : ℕ → ℕ → ℕ) (start : Start) → List ℕ
+handedNumbers parent count R start = documentNumbers (handedEntries parent count R start)
