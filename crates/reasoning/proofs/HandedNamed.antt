@@ -47,6 +47,10 @@ pub data Found (parent : ℕ → ℕ) (count : ℕ) (R : ℕ → ℕ → ℕ) (g
   many : (c : ℕ) → Has (chain parent count R start) c → a ≡ allPart c goals → Found parent count R goals start a
   one : (c g : ℕ) → c < count → Has (row parent count R start c) g → a ≡ onePart c g → Found parent count R goals start a
 
+-- the parts that part 0 names
+abbrev pub NamedPart : (parent : ℕ → ℕ) (count : ℕ) (R : ℕ → ℕ → ℕ) (goals : List ℕ) → Part → Type 0
+NamedPart parent count R goals a = Named (kidsOf parent count (wordReach R)) (partZero goals ∷ []) a
+
 -- the goals are several, or there is one
 pub data HowMany (goals : List ℕ) (w : ℕ) : Type 0 where
   several : severalb w ≡ true → Several goals → HowMany goals w
@@ -136,15 +140,11 @@ module _ {parent : ℕ → ℕ} {count : ℕ} {goals : List ℕ} {start : Start}
 module _ {parent : ℕ → ℕ} {rules : List Rule} {count : ℕ} {R : ℕ → ℕ → ℕ} {goals : List ℕ} {start : Start} (desc : Descending parent)
     (within : RulesIn count rules) (few : count ≤ 64) (words : ReachWords parent rules count R)
     (begins : Begins parent count goals start) where
-  -- the parts that part 0 names
-  abbrev pub NamedPart : Part → Type 0
-  NamedPart a = Named (kidsOf parent count (wordReach R)) (partZero goals ∷ []) a
-
-  pub goals-of : {a : Part} → NamedPart a → Goals parent count (a .path) (a .goals)
+  pub goals-of : {a : Part} → NamedPart parent count R goals a → Goals parent count (a .path) (a .goals)
   goals-of n = named-goals desc within (words-decide words) (begins .goalsIn) n
 
   -- a child of a named part may stand under it
-  pub kid-may-stand : {a k : Part} → NamedPart a → List·Memᴰ k (kidsOf parent count (wordReach R) a)
+  pub kid-may-stand : {a k : Part} → NamedPart parent count R goals a → List·Memᴰ k (kidsOf parent count (wordReach R) a)
       → MayStand parent count pathOf (a .path) k
   kid-may-stand {a} {k} n m =
       kid-stands desc within (words-decide words) (goals-of n) (kids-are desc within (words-decide words) a k (goals-of n) m)
@@ -153,7 +153,7 @@ module _ {parent : ℕ → ℕ} {rules : List Rule} {count : ℕ} {R : ℕ → �
   chain-in-table {c} h = omega (arith, below-le desc (chain-iff begins desc few R c .0 h .1), top-small begins desc few R)
 
   -- the parts on the chain are named
-  pub all-named : {c : ℕ} → Has (chain parent count R start) c → NamedPart (allPart c goals)
+  pub all-named : {c : ℕ} → Has (chain parent count R start) c → NamedPart parent count R goals (allPart c goals)
   all-named {c} h =
       chain-named desc within (words-decide words) (begins .goalsIn)
       (subst (λ (z : ℕ). Below parent c z) (begins .top) (chain-iff begins desc few R c .0 h .1))
@@ -166,7 +166,7 @@ module _ {parent : ℕ → ℕ} {rules : List Rule} {count : ℕ} {R : ℕ → �
   kids-of-all {c} h k = kid-word desc within few words (goals-of (all-named h)) (begins .word) (mode-of begins desc few R c) k
 
   -- the children of a part with one goal
-  pub kids-of-one : {c g : ℕ} → NamedPart (onePart c g) → (k : Part)
+  pub kids-of-one : {c g : ℕ} → NamedPart parent count R goals (onePart c g) → (k : Part)
       → List·Memᴰ k (kidsOf parent count (wordReach R) (onePart c g)) ↔ KidBy parent c (g ∷ []) false (oneKids parent count R c g) k
   unfolding oneKids
   kids-of-one {c} {g} n k =
@@ -202,10 +202,10 @@ module _ {parent : ℕ → ℕ} {rules : List Rule} {count : ℕ} {R : ℕ → �
   zero-in : 0 < count
   zero-in = omega (arith, begins .goalsIn .small (begins .goalsIn .some) (begins .goalsIn .listed))
 
-  root-named : (g : ℕ) → Has (row parent count R start 0) g → NamedPart (onePart 0 g)
+  root-named : (g : ℕ) → Has (row parent count R start 0) g → NamedPart parent count R goals (onePart 0 g)
   root-named g h = pick (how-many begins) (root-row g zero-in .0 h)
     where
-      pick : HowMany goals (start .goals) → (severalb (start .goals) ≡ false) × Has (start .goals) g → NamedPart (onePart 0 g)
+      pick : HowMany goals (start .goals) → (severalb (start .goals) ≡ false) × Has (start .goals) g → NamedPart parent count R goals (onePart 0 g)
       pick (several e s) r = absurd (true≢false (sym e ∙ r .0))
       pick (unique e f s) r =
           let p : g ≡ f = List·Memᴰ·eq-of-singleton (subst (λ (l : List ℕ). List·Memᴰ g l) s (begins .word .is g .0 (r .1))) in
@@ -217,38 +217,38 @@ module _ {parent : ℕ → ℕ} {rules : List Rule} {count : ℕ} {R : ℕ → �
   child-is : (c g : ℕ) → 0 < c → Below parent c g → childFor parent (parent c) g ≡ onePart c g
   child-is c g p b = ap (λ (z : ℕ). onePart z g) (towards-is c g p b)
 
-  row-named-in : (left c g : ℕ) → c ≤ left → c < count → Has (row parent count R start c) g → NamedPart (onePart c g)
+  row-named-in : (left c g : ℕ) → c ≤ left → c < count → Has (row parent count R start c) g → NamedPart parent count R goals (onePart c g)
   row-named-in zero c g l s h =
       let e : c ≡ 0 = omega arith in
-      subst (λ (z : ℕ). NamedPart (onePart z g)) (sym e)
+      subst (λ (z : ℕ). NamedPart parent count R goals (onePart z g)) (sym e)
       (root-named g (subst (λ (z : ℕ). Has (row parent count R start z) g) e h))
   row-named-in (suc left) c g l s h =
       pick (ℕ-discrete c 0)
       (λ f m. row-named-in left (parent c) f (parent-fuel desc c left l) (omega (arith, parent-le desc c)) m)
     where
       kid : 0 < c → Below parent c g → KidGoal parent count R start (parent c) (row parent count R start (parent c)) g
-          → ((f : ℕ) → Has (row parent count R start (parent c)) f → NamedPart (onePart (parent c) f)) → NamedPart (onePart c g)
+          → ((f : ℕ) → Has (row parent count R start (parent c)) f → NamedPart parent count R goals (onePart (parent c) f)) → NamedPart parent count R goals (onePart c g)
       kid p b (ofAll q k) again =
-          subst NamedPart (child-is c g p b)
+          subst (NamedPart parent count R goals) (child-is c g p b)
           (further (allPart (parent c) goals) (all-named q) (kids-of-all q (childFor parent (parent c) g) .1 (alone g k refl)))
       kid p b (ofOne f q k) again =
           let n = again f q in
-          subst NamedPart (child-is c g p b)
+          subst (NamedPart parent count R goals) (child-is c g p b)
           (further (onePart (parent c) f) n (kids-of-one n (childFor parent (parent c) g) .1 (alone g k refl)))
 
-      pick : Dec (c ≡ 0) → ((f : ℕ) → Has (row parent count R start (parent c)) f → NamedPart (onePart (parent c) f))
-          → NamedPart (onePart c g)
+      pick : Dec (c ≡ 0) → ((f : ℕ) → Has (row parent count R start (parent c)) f → NamedPart parent count R goals (onePart (parent c) f))
+          → NamedPart parent count R goals (onePart c g)
       pick (yes e) again =
-          subst (λ (z : ℕ). NamedPart (onePart z g)) (sym e)
+          subst (λ (z : ℕ). NamedPart parent count R goals (onePart z g)) (sym e)
           (root-named g (subst (λ (z : ℕ). Has (row parent count R start z) g) e h))
       pick (no n) again = let r = next-row c g (omega arith) s .0 h in kid (omega arith) (r .1) (r .0) again
 
   -- the parts of the rows are named
-  pub row-named : {c g : ℕ} → c < count → Has (row parent count R start c) g → NamedPart (onePart c g)
+  pub row-named : {c g : ℕ} → c < count → Has (row parent count R start c) g → NamedPart parent count R goals (onePart c g)
   row-named {c} {g} s h = row-named-in c c g (omega arith) s h
 
   -- a child with one goal is in the row of its path
-  kid-found : {c : ℕ} {a k : Part} (h : ℕ) → a .path ≡ c → NamedPart a → List·Memᴰ k (kidsOf parent count (wordReach R) a)
+  kid-found : {c : ℕ} {a k : Part} (h : ℕ) → a .path ≡ c → NamedPart parent count R goals a → List·Memᴰ k (kidsOf parent count (wordReach R) a)
       → k ≡ childFor parent c h → KidGoal parent count R start c (row parent count R start c) h → Found parent count R goals start k
   kid-found {c} {a} {k} h on n m e q =
       let s = kid-may-stand n m in
@@ -262,7 +262,7 @@ module _ {parent : ℕ → ℕ} {rules : List Rule} {count : ℕ} {R : ℕ → �
       (e ∙ ap (λ (z : ℕ). onePart z h) (sym p))
 
   -- every named part is one of these
-  pub named-found : {a : Part} → NamedPart a → Found parent count R goals start a
+  pub named-found : {a : Part} → NamedPart parent count R goals a → Found parent count R goals start a
   named-found {a} (given m) = pick (how-many begins)
     where
       e : a ≡ partZero goals

@@ -29,6 +29,7 @@ pub mod HandedRows
 pub mod HandedNamed
 pub mod Order
 pub mod HandedOrder
+pub mod HandedParts
 pub mod Handed
 pub mod HandedTree
 pub mod HandedDocuments
