@@ -10,7 +10,7 @@ use lib.ListN.{length, getD, set, replicate, length-set, length-replicate, getD-
 use lib.Seq.{getD-set-same, getD-set-other}
 use lib.Dec.{lit<}
 use Rattle.files.specs.Sets.{Has, hasb}
-use Rattle.files.proofs.TableTests.{rules-from-length}
+use Rattle.files.proofs.Tables.{rules-length}
 use Rattle.files.proofs.SetBits.{same-sets, not-has, bit-of-zero, hasb-true, hasb-false, hasb-has, hasb-absent, bit-absent}
 use Rattle.documents.specs.Paths.{Below, same, up, StrictlyBelow, Descending, depthOf}
 use Rattle.documents.proofs.Paths.{below-le, below-dec, below-strictly, below-comparable, depth-root, depth-child, depth-strictly}
@@ -87,7 +87,7 @@ module _ {parent kind left right : List ℕ} {count many : ℕ} (sound : Sound p
   sound-fits = record {
     descending = sound .parents .descending;
     few = sound .parents .few;
-    fewRules = omega (arith, sound .fewRules, rules-from-length kind left right 0 many);
+    fewRules = omega (arith, sound .fewRules, rules-length kind left right 0 many);
     rulesIn = sound .rulesIn;
   }
 
