@@ -1,7 +1,7 @@
 -- The two calls: what each answers, what the lent buffer then holds, and what that means over all documents.
 use Prim.Native.Nat.{ℕ, _+_, _≤_, _<_}
 use mathlib.Core.Path.{_≡_}
-use mathlib.Core.Logic.{_↔_}
+use mathlib.Core.Logic.{_↔_, _⊎_}
 use mathlib.Core.Bool.{Bool, true, false, _&&_}
 use mathlib.Core.List.{List}
 use lib.Dec.{eqb, leb, ltb}
@@ -145,7 +145,8 @@ pub record DecidesConsistency (t : Rules) (out : List ℕ) (r : Consistency) (af
   pub inconsistent : (n : ℕ) → r ≡ Consistency.Inconsistent n
       → (Consistent (parentsOf t) (ruleListOf t) (t .paths) (rulesOf t .required) → ⊥)
         × BringsEvidence (take n after) (ShowsInconsistent (parentsOf t) (ruleListOf t) (askedOf t))
-  -- in 65,536 bytes there is room for every answer
+  -- the length is within the buffer, and in 65,536 bytes there is room for every answer
+  pub within : (n : ℕ) → (r ≡ Consistency.Consistent n) ⊎ (r ≡ Consistency.Inconsistent n) → n ≤ length out
   pub room : 65536 ≤ length out → r ≡ Consistency.Refused 20 0 → ⊥
 
 -- what a question promises, on all tables, questions and buffers
@@ -163,5 +164,6 @@ pub record AnswersQuestion (t : Rules) (kind p q : ℕ) (out : List ℕ) (r : Re
       → Follows t (questionOf kind p q) × BringsEvidence (take n after) (Shows (parentsOf t) (ruleListOf t) kind p q)
   -- no: the document handed back obeys the rules and breaks the question
   pub counter : (n : ℕ) → r ≡ Reply.No n → HandsBack t (take n after) (Breaks t (questionOf kind p q))
-  -- in 65,536 bytes there is room for every answer
+  -- the length is within the buffer, and in 65,536 bytes there is room for every answer
+  pub within : (n : ℕ) → (r ≡ Reply.Yes n) ⊎ (r ≡ Reply.No n) → n ≤ length out
   pub room : 65536 ≤ length out → r ≡ Reply.Refused 20 0 → ⊥
