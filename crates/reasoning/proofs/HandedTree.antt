@@ -1,32 +1,22 @@
 -- The tree that a document written down stands for holds and obeys what the tree of part 0 does.
-use Prim.Native.Nat.{ℕ, _<_}
+use Prim.Native.Nat.{ℕ}
 use mathlib.Core.Path.{_≡_, refl, sym, ap, subst, _∙_}
-use mathlib.Core.Logic.{_↔_}
 use mathlib.Core.Bool.{Bool}
 use mathlib.Core.List.{List, [], _∷_, List·Memᴰ, List·Memᴰ·head, List·Memᴰ·eq-of-singleton}
 use lib.ListN.{getD}
 use Rattle.files.specs.Table.{Rule}
 use Rattle.documents.specs.Paths.{Descending}
 use Rattle.documents.specs.Tree.{Forest, Holds, Document}
-use Rattle.documents.specs.Obey.{Implication, Absence, Obeys}
+use Rattle.documents.specs.Obey.{Obeys}
 use Rattle.documents.specs.Parts.{Unfolds, PartHolds, Named, given, further}
 use Rattle.documents.specs.PartList.{Entry, entryPath, entryKids, StandsFor}
 use Rattle.documents.proofs.Parts.{list-unfolds, unfolds-document, one-holds, parts-implication, parts-absence, parts-obey}
-use Rattle.documents.proofs.Shared.{
-  Origin,
-  Renames,
-  renamed-holds,
-  renamed-fits,
-  renamed-falls,
-  renamed-implication,
-  renamed-absence,
-  renamed-obey,
-}
+use Rattle.documents.proofs.Shared.{Renames, renamed-holds, renamed-fits, renamed-falls, renamed-implication, renamed-absence, renamed-obey}
 use Rattle.reasoning.specs.Follows.{BreaksImplication, BreaksAbsence, Witnesses}
 use Rattle.reasoning.specs.Parts.{Part, pathOf, RulesIn, Decides, kidsOf, partZero}
 use Rattle.reasoning.specs.Order.{NumberedIn, Only, LaysDown, WritesDocument}
 use Rattle.reasoning.proofs.Kids.{Goals}
-use Rattle.reasoning.proofs.Completeness.{fits, falls, tree-exists}
+use Rattle.reasoning.proofs.Completeness.{fits, falls}
 use Rattle.reasoning.proofs.Order.{standing-is}
 use Rattle.reasoning.proofs.Sorted.{numbered-unique, numbered-at, numbered-map, numbered-member, matches-right}
 
