@@ -349,14 +349,19 @@ module _ {parent : ℕ → ℕ} {rules : List Rule} {count : ℕ} {R : ℕ → �
           lays-down c false (oneKids parent count R c g) (one-kids-small parent count R start c g) (λ x k. ofOne g h k)
           (onePart c g) refl (one-kids-iff (row-named desc within few words begins l h))))
 
+  -- the entries lay down the parts, one by one
+  pub entries-lay : Matches (LaysDown parent count (wordReach R) (handedParts parent count R goals start))
+      (handedParts parent count R goals start) (handedEntries parent count R start)
+  unfolding handedEntries
+  entries-lay = matches-each _ _ (pathOrder parent count) (λ c m. entries-match c (order-in-table parent count few c m))
+
   -- the computed document is the document that begins with part 0, written down
   pub handed-writes : WritesDocument parent count (wordReach R) (partZero goals) (handedEntries parent count R start)
-  unfolding handedEntries
   handed-writes = record {
     parts = (handedParts parent count R goals start);
     begins = parts-begin desc within few shallow words begins;
     named = parts-named desc within few shallow words begins;
     every = λ a n. let r = parts-every desc within few shallow words begins a n in (r .0, record { part = a; number = r .1; same = same-part a });
     ordered = parts-ordered desc within few shallow words begins;
-    entries = matches-each _ _ (pathOrder parent count) (λ c m. entries-match c (order-in-table parent count few c m));
+    entries = entries-lay;
   }

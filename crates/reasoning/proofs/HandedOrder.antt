@@ -47,7 +47,8 @@ pub data Earlier (parent : ℕ → ℕ) (x y : ℕ) : Type 0 where
   beside : depthOf parent x ≡ depthOf parent y → x < y → Earlier parent x y
 
 module _ (parent : ℕ → ℕ) (count : ℕ) (few : count ≤ 64) where
-  layer-mem : (d x : ℕ) → List·Memᴰ x (members (layer parent count d)) ↔ ((x < count) × (depthOf parent x ≡ d))
+  -- the paths of a depth
+  pub layer-mem : (d x : ℕ) → List·Memᴰ x (members (layer parent count d)) ↔ ((x < count) × (depthOf parent x ≡ d))
   unfolding layer
   layer-mem d x =
       let m = mem-members (layer parent count d) x (where-small (λ y. eqb (depthOf parent y) d) count) in

@@ -33,3 +33,5 @@ pub mod HandedParts
 pub mod Handed
 pub mod HandedTree
 pub mod HandedDocuments
+pub mod HandedDisjoint
+pub mod Sizes
