@@ -54,7 +54,7 @@ use Rattle.reasoning.specs.Handed.{
   handedNumbers,
 }
 use Rattle.reasoning.proofs.Reachable.{subtree-iff}
-use Rattle.reasoning.proofs.Sorted.{each-from, map-from, matches-length, ascending-sorted}
+use Rattle.reasoning.proofs.Sorted.{numbered-lt, each-from, map-from, matches-length, matches-partner, ascending-sorted}
 use Rattle.reasoning.proofs.Order.{precedes-asym}
 use Rattle.reasoning.proofs.HandedRows.{Begins, onePart, allPart, row}
 use Rattle.reasoning.proofs.HandedNamed.{chain-iff, next-row}
@@ -244,6 +244,32 @@ module _ {parent : ℕ → ℕ} {rules : List Rule} {count : ℕ} {R : ℕ → �
       bytes-more (length (e .kids)) (e .kids ++ partNumbers es), bytes-append (e .kids) (partNumbers es),
       number-short (e .path) (omega (arith, s .path)), number-short (length (e .kids)) (omega (arith, s .kids)), kids-bytes (e .kids),
       parts-bytes es (λ x m. h x (List·Memᴰ·tail m)))
+
+  kid-numbers : (e : Entry) → List·Memᴰ e (handedEntries parent count R start) → (n : ℕ) → List·Memᴰ n (e .kids) → n < 449
+  kid-numbers e m n k =
+      let lay = entries-lay desc within few shallow words begins in
+      let r = matches-partner lay m in
+      omega (arith, numbered-lt (r .2 .only n k .standing .number), matches-length lay, parts-few)
+
+  part-numbers : (es : List Entry) → ((e : Entry) → List·Memᴰ e es → SmallEntry e × ((n : ℕ) → List·Memᴰ n (e .kids) → n < 449))
+      → (n : ℕ) → List·Memᴰ n (partNumbers es) → n ≤ 449
+  unfolding partNumbers
+  part-numbers [] h n m = absurd (List·Memᴰ·not-nil m)
+  part-numbers (e ∷ es) h n (List·Memᴰ·head p) = omega (arith, h e (List·Memᴰ·head refl) .0 .path)
+  part-numbers (e ∷ es) h n (List·Memᴰ·tail (List·Memᴰ·head p)) = omega (arith, h e (List·Memᴰ·head refl) .0 .kids)
+  part-numbers (e ∷ es) h n (List·Memᴰ·tail (List·Memᴰ·tail m)) =
+      pick (List·Memᴰ·append-cases (e .kids) m) (part-numbers es (λ x k. h x (List·Memᴰ·tail k)) n)
+    where
+      pick : List·Memᴰ n (e .kids) ⊎ List·Memᴰ n (partNumbers es) → (List·Memᴰ n (partNumbers es) → n ≤ 449) → n ≤ 449
+      pick (inl k) again = omega (arith, h e (List·Memᴰ·head refl) .1 n k)
+      pick (inr k) again = again k
+
+  -- its numbers, the part count, paths, child counts and child numbers, are at most 449
+  pub numbers-few : (n : ℕ) → List·Memᴰ n (handedNumbers parent count R start) → n ≤ 449
+  unfolding handedNumbers documentNumbers
+  numbers-few n (List·Memᴰ·head p) = omega (arith, parts-few)
+  numbers-few n (List·Memᴰ·tail m) =
+      part-numbers (handedEntries parent count R start) (λ e k. (entries-small e k, kid-numbers e k)) n m
 
   -- a document handed back has at most 65,536 bytes
   pub bytes-few : length (bytesOfAll (handedNumbers parent count R start)) ≤ 65536
