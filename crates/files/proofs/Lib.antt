@@ -1,4 +1,5 @@
 -- The crate's laws.
+pub mod Collect
 pub mod Depths
 pub mod Examples
 pub mod FileParts
@@ -19,7 +20,11 @@ pub mod SetBits
 pub mod SetLowest
 pub mod SetMembers
 mod SetWords
+pub mod Stores
 pub mod TableStructs
 pub mod TableTests
 pub mod Tables
+pub mod Tester
 pub mod ValidTables
+pub mod Writer
+pub mod WritingJoins

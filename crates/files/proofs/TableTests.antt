@@ -20,6 +20,7 @@ use Rattle.files.proofs.Passing.{both-true, both-made}
 use Rattle.files.proofs.Rows.{between-passes}
 use Rattle.files.proofs.SetBits.{bit-absent, bit-of-zero, bit-pow-same, bit-pow-other, bit-below-out, not-has, same-bits, has-common, has-difference, has-below, common-lt, difference-lt}
 use Rattle.files.proofs.SetMembers.{mem-members, members-ascending}
+use Rattle.files.proofs.Tables.{paths-length, rules-length}
 use Rattle.files.proofs.ValidTables.{valid-passing, passing-valid}
 
 -- ---- required paths
@@ -91,25 +92,15 @@ module _ (count w : ℕ) (f : w < 2 ^ 64) where
 
 -- ---- the whole table
 
-pub paths-from-length : (parent label : List ℕ) (x k : ℕ) → length (pathsFrom parent label x k) ≡ k
-unfolding pathsFrom
-paths-from-length parent label x zero = refl
-paths-from-length parent label x (suc k) = ap suc (paths-from-length parent label (x + 1) k)
-
-pub rules-from-length : (kind left right : List ℕ) (x k : ℕ) → length (rulesFrom kind left right x k) ≡ k
-unfolding rulesFrom
-rules-from-length kind left right x zero = refl
-rules-from-length kind left right x (suc k) = ap suc (rules-from-length kind left right (x + 1) k)
-
 module _ (t : Rules) (f : t .required < 2 ^ 64) where
   -- as many paths as the table says, the root among them
   as-many : 0 < t .paths → 1 + length (rulesOf t .paths) ≡ t .paths
   unfolding rulesOf
-  as-many some = omega (arith, paths-from-length (t .parent) (t .label) 1 (t .paths - 1))
+  as-many some = omega (arith, paths-length (t .parent) (t .label) 1 (t .paths - 1))
 
   many-rules : length (rulesOf t .rules) ≡ t .rules
   unfolding rulesOf
-  many-rules = rules-from-length (t .kind) (t .left) (t .right) 0 (t .rules)
+  many-rules = rules-length (t .kind) (t .left) (t .right) 0 (t .rules)
 
   passes-only : tablePasses t ≡ true → ValidTable t
   unfolding tablePasses rulesOf

@@ -3,4 +3,5 @@ pub mod number;
 pub mod read;
 pub mod rules;
 pub mod sets;
+pub mod valid;
 pub mod write;

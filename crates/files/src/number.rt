@@ -2,7 +2,8 @@
 ghost use Prim.Native.Nat.{ℕ, _+_, _≤_, _<_};
 ghost use mathlib.Core.Path.{_≡_};
 ghost use lib.ListN.{length, drop};
-ghost use Rattle.files.specs.Number.{numberIn, twoBytes};
+ghost use lib.Seq.{sets};
+ghost use Rattle.files.specs.Number.{limit, bytesOf, numberIn, twoBytes};
 
 // What bytes begin with: a number's value and how many bytes it takes, or the refusal, 1 or 2.
 pub enum Number {
@@ -10,10 +11,22 @@ pub enum Number {
     Refused(u8),
 }
 
-fn wide(b: u8) -> u32
+pub(crate) fn wide32(b: u8) -> u32
     ensures { λ r. ⌜ (r ≡ b) × (r < 256) ⌝ }
 {
     b as u32
+}
+
+pub(crate) fn wide(b: u8) -> usize
+    ensures { λ r. ⌜ (r ≡ b) × (r < 256) ⌝ }
+{
+    b as usize
+}
+
+pub(crate) fn wide_number(n: u32) -> usize
+    ensures { λ r. ⌜ r ≡ n ⌝ }
+{
+    n as usize
 }
 
 // The second byte `high` of a number after the first, `low`, which says that another follows.
@@ -37,7 +50,7 @@ pub fn read_number(s: &[u8], at: usize) -> Number
     if s.len() <= at {
         return Number::Refused(1);
     }
-    let low = wide(s[at]);
+    let low = wide32(s[at]);
     if low < 128 {
         return Number::Is(low, 1);
     }
@@ -45,5 +58,29 @@ pub fn read_number(s: &[u8], at: usize) -> Number
     if s.len() <= next {
         return Number::Refused(1);
     }
-    second(low, wide(s[next]))
+    second(low, wide32(s[next]))
+}
+
+// How many bytes the number takes.
+pub fn size_of(n: u32) -> usize
+    ensures { λ r. ⌜ (r ≡ length (bytesOf n)) × (r ≤ 2) ⌝ }
+{
+    if n < 128 {
+        return 1;
+    }
+    2
+}
+
+// The number's bytes stored from `at` on; the place after them.
+pub(crate) fn put_number(out: &mut [u8], at: usize, n: u32) -> usize
+    requires { ⌜ (n < limit) × (at + length (bytesOf n) ≤ length (now out)) ⌝ }
+    ensures { λ r. ⌜ (r ≡ at + length (bytesOf n)) × (now (out .exit) ≡ sets (now (out .entry)) at (bytesOf n)) ⌝ }
+{
+    if n < 128 {
+        out[at] = n as u8;
+        return at + 1;
+    }
+    out[at] = (128 + n % 128) as u8;
+    out[at + 1] = (n / 128) as u8;
+    at + 2
 }

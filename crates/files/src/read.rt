@@ -9,12 +9,13 @@ ghost use Rattle.files.specs.Table.{Path, RuleSet};
 ghost use Rattle.files.specs.RuleFile.{between, sameChild, repeats, parentTest, pathLabel, onePath, morePaths, depths, moreRequired, ruleRight, ruleLeft, oneRule, moreRules, rulesToEnd, afterRequired, requiredOn, afterPaths, afterRoot, afterCount};
 ghost use Rattle.files.specs.Rules.{pathsFrom, padded, addAll, tableOf};
 ghost use Rattle.files.specs.Reading.{tested, pathAnswer, pathsAnswer, requiredAnswer, ruleAnswer, ruleListAnswer, PathsIn, readingOf, ReadRules};
-
 use crate::number::Number;
 use crate::number::read_number;
+use crate::number::wide;
+use crate::number::wide_number;
+use crate::number::wide32;
 use crate::rules::Rules;
 use crate::sets::with;
-
 
 // One path: its parent, its label, its depth and the place after it.
 enum OnePath {
@@ -67,24 +68,6 @@ pub struct Reading {
     pub rules: Rules,
 }
 
-fn wide(b: u8) -> usize
-    ensures { λ r. ⌜ (r ≡ b) × (r < 256) ⌝ }
-{
-    b as usize
-}
-
-fn wide32(b: u8) -> u32
-    ensures { λ r. ⌜ (r ≡ b) × (r < 256) ⌝ }
-{
-    b as u32
-}
-
-fn wide_number(n: u32) -> usize
-    ensures { λ r. ⌜ r ≡ n ⌝ }
-{
-    n as usize
-}
-
 // A number that stands from `low` up to and without `past`, or its refusal.
 fn read_between(s: &[u8], at: usize, low: u32, past: u32, refusal: u8) -> Number
     requires { ⌜ 0 < refusal ⌝ }
@@ -115,7 +98,7 @@ fn same_child(parent: u32, label: u32, p: u32, l: u32) -> bool
 }
 
 // Whether parent and label are those of a path from 1 to `own` - 1.
-fn repeats(parent: &[u8; 64], label: &[u32; 64], own: usize, p: u32, l: u32) -> bool
+pub(crate) fn repeats(parent: &[u8; 64], label: &[u32; 64], own: usize, p: u32, l: u32) -> bool
     requires { ⌜ (1 ≤ own) × (own ≤ 64) ⌝ }
     ensures { λ r. ⌜ r ≡ repeats (pathsFrom (now (parent .entry)) (now (label .entry)) 1 (own - 1)) p l ⌝ }
 {
@@ -130,7 +113,7 @@ fn repeats(parent: &[u8; 64], label: &[u32; 64], own: usize, p: u32, l: u32) -> 
 }
 
 // The test of a parent: 4, 5, or 0 where it passes.
-fn parent_test(depth: &[u8; 64], own: usize, p: u32) -> u8
+pub(crate) fn parent_test(depth: &[u8; 64], own: usize, p: u32) -> u8
     requires { ⌜ own ≤ 64 ⌝ }
     ensures { λ r. ⌜ r ≡ parentTest (now (depth .entry)) own p ⌝ }
 {
@@ -412,7 +395,15 @@ fn read_rule_count(
 {
     match read_between(s, at, 0, 257, 8) {
         Number::Refused(why) => refuse(why, at),
-        Number::Is(many, size) => read_to_end(s, at + size, wide_number(many), count, parent, label, required),
+        Number::Is(many, size) => read_to_end(
+            s,
+            at + size,
+            wide_number(many),
+            count,
+            parent,
+            label,
+            required,
+        ),
     }
 }
 
@@ -436,7 +427,13 @@ fn read_required_paths(
 }
 
 // Required count and required paths, and on.
-fn read_required_count(s: &[u8], at: usize, count: u32, parent: [u8; 64], label: [u32; 64]) -> Reading
+fn read_required_count(
+    s: &[u8],
+    at: usize,
+    count: u32,
+    parent: [u8; 64],
+    label: [u32; 64],
+) -> Reading
     requires { ⌜ count ≤ 64 ⌝ }
     ensures { λ r. ⌜ ((root : ℕ) (ps : List Path) → PathsIn count parent label root ps
         → r ≡ readingOf (atEnd (length (now (s .entry))) (run (afterPaths root ps) at (drop at (now (s .entry)))))) ⌝ }

@@ -98,7 +98,7 @@ module _ {within s : ℕ} where
       said w y (inr l) = inr (record { start = l .start; member = l .member; inside = l .inside; edge = to (l .start) y (l .edge) })
 
 -- one edge, where a test passes
-record Single (test : Bool) (a b x y : ℕ) : Type 0 where
+pub record Single (test : Bool) (a b x y : ℕ) : Type 0 where
   passes : test ≡ true
   starts : a ≡ x
   ends : b ≡ y
@@ -159,21 +159,21 @@ module _ {within s : ℕ} (fits : within < 2 ^ 64) (test : Bool) (a b : ℕ) whe
       below w h false e = rw (carry, e) h
 
 -- a rule of the list leads from x to y
-record Turned (way : Way) (rules : List Rule) (x y : ℕ) : Type 0 where
+pub record Turned (way : Way) (rules : List Rule) (x y : ℕ) : Type 0 where
   r : ℕ
   ru : Rule
   rule : Numbered rules r ru
   turn : Single (goesAlong ru) (tail way ru) (tip way ru) x y ⊎ Single (goesAgainst ru) (tip way ru) (tail way ru) x y
 
 -- a climb from a path below n leads from x to y
-record Climbed (way : Way) (parent : ℕ → ℕ) (n x y : ℕ) : Type 0 where
+pub record Climbed (way : Way) (parent : ℕ → ℕ) (n x y : ℕ) : Type 0 where
   low : ℕ
   under : low < n
   starts : foot way parent low ≡ x
   ends : head way parent low ≡ y
 
 module _ {within s : ℕ} (fits : within < 2 ^ 64) (way : Way) where
-  rules-join : (rules : List Rule) → Joins within s (byRules way within s rules) (Turned way rules)
+  pub rules-join : (rules : List Rule) → Joins within s (byRules way within s rules) (Turned way rules)
   unfolding byRules byRule
   rules-join [] = joins-as (λ x y e. absurd e) (λ x y t. let l : t .r < 0 = numbered-lt (t .rule) in omega arith) joins-none
   rules-join (ru ∷ rest) =
@@ -197,7 +197,7 @@ module _ {within s : ℕ} (fits : within < 2 ^ 64) (way : Way) where
       back : (x y : ℕ) → Turned way (ru ∷ rest) x y → Own x y ⊎ Turned way rest x y
       back x y t = split x y (t .rule) (t .turn)
 
-  climbs-join : (parent : ℕ → ℕ) (n : ℕ) → Joins within s (byClimbs way parent within s n) (Climbed way parent n)
+  pub climbs-join : (parent : ℕ → ℕ) (n : ℕ) → Joins within s (byClimbs way parent within s n) (Climbed way parent n)
   unfolding byClimbs
   climbs-join parent zero = joins-as (λ x y e. absurd e) (λ x y t. let l = t .under in omega arith) joins-none
   climbs-join parent (suc n) =

@@ -1,1 +1,3 @@
 // Walks, dead paths, evidence, and the documents handed back.
+pub(crate) mod reach;
+pub(crate) mod steps;
