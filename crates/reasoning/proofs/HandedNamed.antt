@@ -17,6 +17,7 @@ use Rattle.documents.specs.Parts.{Named, given, further, MayStand}
 use Rattle.documents.proofs.Paths.{below-root, below-le, towards-below, towards-unique, parent-strictly, parent-le, parent-fuel}
 use Rattle.reasoning.specs.Parts.{Part, pathOf, RulesIn, meetAll, childFor, childForAll, kidsOf, partZero}
 use Rattle.reasoning.specs.Reachable.{subtree}
+use Rattle.reasoning.specs.Least.{someIn}
 use Rattle.reasoning.specs.Order.{Several, Only}
 use Rattle.reasoning.specs.Handed.{Start, ReachWords, wordReach, severalb, oneKids, chain, allKids, kidsAt, rootGoals}
 use Rattle.reasoning.proofs.Reachable.{subtree-iff}
@@ -57,7 +58,7 @@ pub data HowMany (goals : List ℕ) (w : ℕ) : Type 0 where
 
 module _ {parent : ℕ → ℕ} {count : ℕ} {goals : List ℕ} {start : Start} (begins : Begins parent count goals start) where
   pub how-many : HowMany goals (start .goals)
-  unfolding severalb
+  unfolding severalb someIn
   how-many = pick (eqb (withoutLowest w) 0) refl
     where
       w : ℕ
@@ -85,12 +86,12 @@ module _ {parent : ℕ → ℕ} {count : ℕ} {goals : List ℕ} {start : Start}
               absurd (has-none (subst (λ (z : ℕ). Has z h) e (has-without-lowest w h .1 (n, begins .word .is h .1 m))))
 
       pick : (b : Bool) → eqb (withoutLowest w) 0 ≡ b → HowMany goals w
-      pick true e = unique (rw (severalb, e) refl) (lowest w) (begins .plain (lowest w) (only (eqb-true (withoutLowest w) 0 e)))
+      pick true e = unique (rw (severalb, someIn, e) refl) (lowest w) (begins .plain (lowest w) (only (eqb-true (withoutLowest w) 0 e)))
       pick false e =
           let v = withoutLowest w in
           let m = has-lowest v (omega (arith, eqb-false v 0 e)) (without-lowest-lt w (begins .word .small)) in
           let r = has-without-lowest w (lowest v) .0 m in
-          several (rw (severalb, e) refl) (record {
+          several (rw (severalb, someIn, e) refl) (record {
             one = lowest w;
             other = lowest v;
             oneListed = begins .word .is (lowest w) .0 low;
