@@ -6,6 +6,7 @@ pub mod Decide
 pub mod Equivalences
 pub mod Evidence
 pub mod EvidenceSize
+pub mod Examples
 pub mod Fill
 pub mod Filling
 pub mod Handed

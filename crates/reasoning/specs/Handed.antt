@@ -28,6 +28,7 @@ use Rattle.documents.specs.PartList.{Entry, documentNumbers}
 use Rattle.reasoning.specs.Walk.{Reach}
 use Rattle.reasoning.specs.Reachable.{subtree}
 use Rattle.reasoning.specs.Least.{passing, someIn}
+use Rattle.reasoning.specs.Evidence.{impliesb}
 
 -- R gives, for a path c and a path x of the table below it, the set of the paths reachable from x inside c
 pub record ReachWords (parent : ℕ → ℕ) (rules : List Rule) (count : ℕ) (R : ℕ → ℕ → ℕ) : Type 0 where
@@ -72,6 +73,10 @@ pub record Start : Type 0 where
 abbrev pub startImplication : (p : ℕ) → Start
 startImplication p = record { goals = withPath 0 p; top = p }
 
+-- for a co-occurrence's no: the first failing direction
+unfoldable pub startBoth : (parent : ℕ → ℕ) (rules : List Rule) (count p q : ℕ) → Start
+startBoth parent rules count p q = elim (impliesb parent rules count p q) [ true ↦ startImplication q | false ↦ startImplication p ]
+
 -- for an absence's no: both goals; equal goals count as one
 abbrev pub startAbsence : (parent : ℕ → ℕ) (p q : ℕ) → Start
 startAbsence parent p q = record { goals = withPath (withPath 0 q) p; top = contextOf parent p q }
@@ -79,6 +84,14 @@ startAbsence parent p q = record { goals = withPath (withPath 0 q) p; top = cont
 -- for consistency: goals 0 and every required path
 abbrev pub startConsistency : (asked : ℕ) → Start
 startConsistency asked = record { goals = asked; top = 0 }
+
+-- for a question's no: kind 1 implication, 2 absence, 3 co-occurrence of p and q
+unfoldable pub startNo : (parent : ℕ → ℕ) (rules : List Rule) (count kind p q : ℕ) → Start
+startNo parent rules count kind p q =
+    elim (eqb kind 1) [
+      | true ↦ startImplication p
+      | false ↦ elim (eqb kind 2) [ true ↦ startAbsence parent p q | false ↦ startBoth parent rules count p q ]
+    ]
 
 -- whether there are several goals
 unfoldable pub severalb : (goals : ℕ) → Bool

@@ -12,3 +12,4 @@ pub mod Required
 pub mod Search
 pub mod Walk
 pub mod Written
+pub mod Examples
