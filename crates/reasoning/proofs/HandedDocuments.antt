@@ -2,7 +2,7 @@
 use Prim.Native.Nat.{ℕ, _^_, _<_, _≤_}
 use mathlib.Core.Path.{_≡_, refl, sym, ap, subst, _∙_}
 use mathlib.Core.Logic.{_⊎_, inl, inr, Iff·trans}
-use mathlib.Core.Bool.{Bool, true, false}
+use mathlib.Core.Bool.{Bool, true, false, _&&_}
 use mathlib.Core.List.{List, [], _∷_, List·Memᴰ, List·Memᴰ·head, List·Memᴰ·tail, List·Memᴰ·cases-cons}
 use native.Mathlib.Omega.{arith}
 use lib.Dec.{T, eqb, lit<}
@@ -23,7 +23,7 @@ use Rattle.reasoning.specs.Reachable.{Fits, reachable, reachb}
 use Rattle.reasoning.specs.Decide.{askedIn}
 use Rattle.reasoning.specs.Evidence.{impliesb, excludesb, consistentb}
 use Rattle.reasoning.specs.Order.{Only, WritesDocument}
-use Rattle.reasoning.specs.Handed.{Start, ReachWords, startImplication, startAbsence, startConsistency, handedEntries, handedNumbers}
+use Rattle.reasoning.specs.Handed.{Start, ReachWords, startImplication, startBoth, startAbsence, startConsistency, handedEntries, handedNumbers}
 use Rattle.reasoning.proofs.Reachable.{reachable-iff, reachable-small}
 use Rattle.reasoning.proofs.RootPair.{askedIn-iff}
 use Rattle.reasoning.proofs.Writes.{implies-iff, excludes-iff}
@@ -189,6 +189,22 @@ module _ {parent : ℕ → ℕ} {rules : List Rule} {count : ℕ} (fits : Fits p
         stands-breaks-implication desc (fits .rulesIn) (reach-decides fits) (begins .goalsIn) (begins .plain) (document-writes begins) s (t .1)
         (implication-no desc (fits .rulesIn) (reach-decides fits) l (contextOf-context desc p q) (λ r. far (iff .1 (inl r)))
         (λ r. far (iff .1 (inr r))) (t .1))
+
+    -- a co-occurrence answered no: the document obeys the rules and breaks the first failing direction
+    pub co-occurrence-document : (p q : ℕ) → p < count → q < count
+        → (T (impliesb parent rules count p q && impliesb parent rules count q p) → ⊥) → (d : Forest)
+        → StandsFor (handedEntries parent count (reachable parent rules count) (startBoth parent rules count p q)) d
+        → BreaksImplication parent rules count p q d
+        ⊎ (T (impliesb parent rules count p q) × BreaksImplication parent rules count q p d)
+    unfolding startBoth
+    co-occurrence-document p q l k far d s = pick (impliesb parent rules count p q) refl
+      where
+        pick : (b : Bool) → impliesb parent rules count p q ≡ b
+            → BreaksImplication parent rules count p q d
+            ⊎ (T (impliesb parent rules count p q) × BreaksImplication parent rules count q p d)
+        pick true e =
+            inr (rw e tt, implication-document q p k l (λ t. far (rw e t)) d (rw (startBoth, e) at s))
+        pick false e = inl (implication-document p q l k (λ t. rw e at t) d (rw (startBoth, e) at s))
 
     -- an absence answered no: the document obeys the rules and breaks the absence
     pub absence-document : (p q : ℕ) → p < count → q < count → (T (excludesb parent rules count p q) → ⊥) → (d : Forest)

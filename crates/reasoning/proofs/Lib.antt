@@ -9,6 +9,7 @@ pub mod EvidenceSize
 pub mod Examples
 pub mod Fill
 pub mod Filling
+pub mod Graph
 pub mod Handed
 pub mod HandedBack
 pub mod HandedDisjoint

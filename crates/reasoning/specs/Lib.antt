@@ -13,3 +13,4 @@ pub mod Search
 pub mod Walk
 pub mod Written
 pub mod Examples
+pub mod Graph
