@@ -1,26 +1,27 @@
 -- The parts of a document are those that the words name: with all goals on the chain, with one goal as the rows say.
-use Prim.Native.Nat.{ℕ, zero, suc, _+_, _^_, _≤_, _<_}
+use Prim.Native.Nat.{ℕ, zero, suc, _^_, _≤_, _<_}
 use mathlib.Core.Path.{_≡_, refl, sym, ap, subst, _∙_}
 use mathlib.Core.Logic.{_⊎_, inl, inr, _↔_}
 use mathlib.Core.Bool.{Bool, true, false, not, false≢true, true≢false}
 use mathlib.Core.List.{List, [], _∷_, List·Memᴰ, List·Memᴰ·head, List·Memᴰ·eq-of-singleton}
 use native.Mathlib.Decide.{ℕ-discrete}
 use native.Mathlib.Omega.{arith}
-use lib.Dec.{T, eqb, lit<}
+use lib.Dec.{eqb, lit<}
 use borrow.Author.Tests.{eqb-true, eqb-false}
 use Rattle.files.specs.Table.{Rule}
-use Rattle.files.specs.Sets.{Has, hasb, withPath, common, lowest, withoutLowest}
+use Rattle.files.specs.Sets.{Has, lowest, withoutLowest}
 use Rattle.files.proofs.SetBits.{has-common}
 use Rattle.files.proofs.SetLowest.{has-lowest, has-without-lowest, without-lowest-lt}
 use Rattle.documents.specs.Paths.{Below, Descending, towards}
 use Rattle.documents.specs.Parts.{Named, given, further, MayStand}
 use Rattle.documents.proofs.Paths.{below-root, below-le, towards-below, towards-unique, parent-strictly, parent-le, parent-fuel}
-use Rattle.reasoning.specs.Parts.{Part, pathOf, RulesIn, Decides, meetAll, childFor, childForAll, kidsOf, partZero}
+use Rattle.reasoning.specs.Parts.{Part, pathOf, RulesIn, meetAll, childFor, childForAll, kidsOf, partZero}
 use Rattle.reasoning.specs.Reachable.{subtree}
+use Rattle.reasoning.specs.Least.{someIn}
 use Rattle.reasoning.specs.Order.{Several, Only}
-use Rattle.reasoning.specs.Handed.{Start, ReachWords, wordReach, severalb, oneKids, chain, allKids, kidsAt, rootGoals, climbAll}
+use Rattle.reasoning.specs.Handed.{Start, ReachWords, wordReach, severalb, oneKids, chain, allKids, kidsAt, rootGoals}
 use Rattle.reasoning.proofs.Reachable.{subtree-iff}
-use Rattle.reasoning.proofs.Kids.{Goals, kids-are, kid-stands, meet-above, meet-longest}
+use Rattle.reasoning.proofs.Kids.{Goals, kids-are, kid-stands, meet-above}
 use Rattle.reasoning.proofs.Completeness.{named-goals, chain-named}
 use Rattle.reasoning.proofs.HandedWords.{has-none, climb-iff, climb-small}
 use Rattle.reasoning.proofs.HandedKids.{KidBy, all, alone, Mode, onWay, meeting, single}
@@ -32,7 +33,6 @@ use Rattle.reasoning.proofs.HandedRows.{
   one-word,
   words-decide,
   row,
-  rowNext,
   row-root,
   row-next,
   row-small,
@@ -58,7 +58,7 @@ pub data HowMany (goals : List ℕ) (w : ℕ) : Type 0 where
 
 module _ {parent : ℕ → ℕ} {count : ℕ} {goals : List ℕ} {start : Start} (begins : Begins parent count goals start) where
   pub how-many : HowMany goals (start .goals)
-  unfolding severalb
+  unfolding severalb someIn
   how-many = pick (eqb (withoutLowest w) 0) refl
     where
       w : ℕ
@@ -86,12 +86,12 @@ module _ {parent : ℕ → ℕ} {count : ℕ} {goals : List ℕ} {start : Start}
               absurd (has-none (subst (λ (z : ℕ). Has z h) e (has-without-lowest w h .1 (n, begins .word .is h .1 m))))
 
       pick : (b : Bool) → eqb (withoutLowest w) 0 ≡ b → HowMany goals w
-      pick true e = unique (rw (severalb, e) refl) (lowest w) (begins .plain (lowest w) (only (eqb-true (withoutLowest w) 0 e)))
+      pick true e = unique (rw (severalb, someIn, e) refl) (lowest w) (begins .plain (lowest w) (only (eqb-true (withoutLowest w) 0 e)))
       pick false e =
           let v = withoutLowest w in
           let m = has-lowest v (omega (arith, eqb-false v 0 e)) (without-lowest-lt w (begins .word .small)) in
           let r = has-without-lowest w (lowest v) .0 m in
-          several (rw (severalb, e) refl) (record {
+          several (rw (severalb, someIn, e) refl) (record {
             one = lowest w;
             other = lowest v;
             oneListed = begins .word .is (lowest w) .0 low;

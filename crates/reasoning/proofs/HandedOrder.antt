@@ -11,8 +11,8 @@ use lib.Dec.{T, eqb, ltb, ltb→lt, lt→ltb, eqb→eq, eqb-refl}
 use lib.Ieee.Fits.{and-i, and-l, and-r}
 use lib.ListN.{length, getD, length-append, length-map}
 use borrow.Author.Tests.{eqb-true, eqb-false}
-use Rattle.files.specs.Sets.{bit, Has, hasb, sizeBelow, size, membersFrom, members}
-use Rattle.files.proofs.SetBits.{bit-cases, hasb-true, hasb-false, hasb-has, hasb-absent, not-has, has-under}
+use Rattle.files.specs.Sets.{bit, Has, hasb, sizeBelow, membersFrom, members}
+use Rattle.files.proofs.SetBits.{bit-cases, hasb-has, hasb-absent, has-under}
 use Rattle.files.proofs.SetMembers.{
   size-below-zero,
   size-below-suc,
@@ -27,8 +27,8 @@ use Rattle.documents.specs.Paths.{Descending, depthOf}
 use Rattle.documents.proofs.Paths.{below-root, depth-root, depth-below}
 use Rattle.reasoning.specs.Parts.{Part}
 use Rattle.reasoning.specs.Order.{NumberedIn, Sorted, Several, Only, Precedes, byDepth, byPath, bySeveral, byGoal}
-use Rattle.reasoning.specs.Handed.{eachOf, onlyIf, pathsWhere, layer, layersFrom, pathOrder, childPaths, partsOn, placeOf, numberOf}
-use Rattle.reasoning.proofs.HandedWords.{where-iff, where-small}
+use Rattle.reasoning.specs.Handed.{eachOf, onlyIf, layer, layersFrom, pathOrder, childPaths, partsOn, placeOf, numberOf}
+use Rattle.reasoning.proofs.Least.{passing-iff, passing-small}
 use Rattle.reasoning.proofs.HandedRows.{onePart, allPart}
 use Rattle.reasoning.proofs.Sorted.{
   numbered-left,
@@ -47,11 +47,12 @@ pub data Earlier (parent : ℕ → ℕ) (x y : ℕ) : Type 0 where
   beside : depthOf parent x ≡ depthOf parent y → x < y → Earlier parent x y
 
 module _ (parent : ℕ → ℕ) (count : ℕ) (few : count ≤ 64) where
-  layer-mem : (d x : ℕ) → List·Memᴰ x (members (layer parent count d)) ↔ ((x < count) × (depthOf parent x ≡ d))
+  -- the paths of a depth
+  pub layer-mem : (d x : ℕ) → List·Memᴰ x (members (layer parent count d)) ↔ ((x < count) × (depthOf parent x ≡ d))
   unfolding layer
   layer-mem d x =
-      let m = mem-members (layer parent count d) x (where-small (λ y. eqb (depthOf parent y) d) count) in
-      let w = where-iff (λ y. eqb (depthOf parent y) d) count x few in
+      let m = mem-members (layer parent count d) x (passing-small (λ y. eqb (depthOf parent y) d) count) in
+      let w = passing-iff (λ y. eqb (depthOf parent y) d) count x few in
       (
         λ h. let r = w .0 (m .0 h) in (r .0, eqb→eq (depthOf parent x) d (r .1)),
         λ h. m .1 (w .1 (h .0, subst (λ (z : ℕ). T (eqb z d)) (sym (h .1)) (eqb-refl d))),
@@ -62,8 +63,8 @@ module _ (parent : ℕ → ℕ) (count : ℕ) (few : count ≤ 64) where
   unfolding childPaths
   child-mem c x =
       let test : ℕ → Bool = λ y. ltb 0 y && eqb (parent y) c in
-      let m = mem-members (childPaths parent count c) x (where-small test count) in
-      let w = where-iff test count x few in
+      let m = mem-members (childPaths parent count c) x (passing-small test count) in
+      let w = passing-iff test count x few in
       (
         λ h.
             let r = w .0 (m .0 h) in

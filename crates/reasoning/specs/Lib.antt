@@ -13,3 +13,5 @@ pub mod Required
 pub mod Search
 pub mod Walk
 pub mod Written
+pub mod Examples
+pub mod Graph
