@@ -1,2 +1,4 @@
 // Paths and documents: what obeying means, and checking a document.
 pub mod check;
+pub mod parts;
+pub mod paths;
