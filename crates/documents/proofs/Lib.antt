@@ -1,6 +1,8 @@
--- The laws of paths, trees and part systems.
+-- The laws of paths, trees and part systems, of reading part lists and of checking documents.
 pub mod Paths
 pub mod Tree
 pub mod Parts
 pub mod Extent
 pub mod Shared
+pub mod Climbing
+pub mod PartReader

@@ -1,4 +1,5 @@
 // Paths and documents: what obeying means, and checking a document.
 pub mod check;
-pub mod parts;
-pub mod paths;
+pub mod context;
+pub mod document;
+mod held;

@@ -2,14 +2,17 @@
 ghost use Prim.Native.Nat.{ℕ, _+_, _-_, _<_};
 ghost use mathlib.Core.Path.{_≡_};
 ghost use Rattle.documents.specs.Paths.{meet, contextOf};
-ghost use Rattle.documents.specs.Reading.{parentAt, TableParents};
+ghost use Rattle.documents.specs.Reading.{kept, parentAt, TableParents};
 
 use files::read::wide;
 
-// A path's parent as it is kept: that of a path past the table is 0.
+// The parent of path x as it is kept: 0 for the root and for a path past the table.
 fn kept(parent: u8, x: usize, count: usize) -> u8
     ensures { λ r. ⌜ r ≡ kept parent x count ⌝ }
 {
+    if x == 0 {
+        return 0;
+    }
     if x < count {
         return parent;
     }
@@ -21,7 +24,7 @@ pub fn parents(parent: &[u8; 64], count: usize) -> [u8; 64]
     ensures { λ r. ⌜ TableParents (now (parent .entry)) count r ⌝ }
 {
     let mut out = [0u8; 64];
-    let mut x = 1usize;
+    let mut x = 0usize;
     while x < 64 {
         out[x] = kept(parent[x], x, count);
         x += 1;
@@ -30,7 +33,7 @@ pub fn parents(parent: &[u8; 64], count: usize) -> [u8; 64]
 }
 
 // The parent of a path; 0 past the 64 paths.
-fn parent_of(parent: &[u8; 64], x: u8) -> u8
+pub(crate) fn parent_of(parent: &[u8; 64], x: u8) -> u8
     ensures { λ r. ⌜ r ≡ parentAt (now (parent .entry)) x ⌝ }
 {
     let i = wide(x);
@@ -51,12 +54,12 @@ fn meet(parent: &[u8; 64], fuel: usize, p: u8, q: u8) -> u8
         if a == b {
             return a;
         }
+        left -= 1;
         if a < b {
             b = parent_of(parent, b);
         } else {
             a = parent_of(parent, a);
         }
-        left -= 1;
     }
     a
 }

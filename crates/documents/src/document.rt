@@ -2,12 +2,13 @@
 ghost use Prim.Native.Nat.{ℕ, _+_, _-_, _≤_, _<_};
 ghost use mathlib.Core.Path.{_≡_};
 ghost use mathlib.Core.List.{List, [], _∷_};
-ghost use lib.ListN.{length, drop, getD};
+ghost use lib.ListN.{length, drop, getD, set};
+ghost use Rattle.files.specs.Sets.{withPath};
 ghost use Rattle.files.specs.Number.{numberIn};
 ghost use Rattle.files.specs.Format.{run, runAll, atEnd};
 ghost use Rattle.files.specs.Reading.{tested};
 ghost use Rattle.documents.specs.PartList.{namedTest, pathTest, moreKids, kidsOn, partAt, moreParts, documentFile};
-ghost use Rattle.documents.specs.Reading.{parentAt, KidsAnswer, PartAnswer, partOf, PartsAnswer, DocumentAnswer};
+ghost use Rattle.documents.specs.Reading.{parentAt, KidsAnswer, PartAnswer, partOf, PartsAnswer, listedAnswer, DocumentAnswer};
 
 use files::number::Number;
 use files::number::read_number;
@@ -16,7 +17,7 @@ use files::read::read_between;
 use files::read::wide;
 use files::read::wide_number;
 use files::sets::with;
-use crate::paths::parent_of;
+use crate::context::parent_of;
 
 // The place after a section, or its refusal.
 pub enum Section {
@@ -80,6 +81,14 @@ fn read_path(s: &[u8], at: usize, parent: &[u8; 64], count: u32, n: usize, set: 
     }
 }
 
+// Part k gets path p among its namers' paths.
+fn mark(namers: &mut [u64; 512], k: usize, p: u8)
+    requires { ⌜ k < 512 ⌝ }
+    ensures { λ _. ⌜ now (namers .exit) ≡ set (now (namers .entry)) k (withPath (getD (now (namers .entry)) k 0) p) ⌝ }
+{
+    namers[k] = with(namers[k], wide(p));
+}
+
 // So many children of part n, which is on path p; each gets p among its namers' paths.
 fn read_kids(
     s: &[u8],
@@ -90,7 +99,7 @@ fn read_kids(
     many: u32,
     namers: &mut [u64; 512],
 ) -> Section
-    requires { ⌜ (size ≤ 512) × (n < 512) ⌝ }
+    requires { ⌜ (size ≤ 512) × (n < 512) × (length (now namers) ≡ 512) ⌝ }
     ensures { λ r. ⌜ KidsAnswer (now (s .entry)) at many p (now (namers .entry)) (now (namers .exit)) (run (moreKids size many n []) at (drop at (now (s .entry)))) r ⌝ }
 {
     let mut last = n;
@@ -102,8 +111,7 @@ fn read_kids(
                 return Section::Refused(why, next);
             }
             Number::Is(x, width) => {
-                let i = wide_number(x);
-                namers[i] = with(namers[i], wide(p));
+                mark(namers, wide_number(x), p);
                 last = x;
                 next += width;
                 left -= 1;
@@ -125,7 +133,7 @@ fn part_of(p: u8, place: usize, end: Section) -> OnePart
 
 // The children of part n, which is on path p: their count first.
 fn read_kid_count(s: &[u8], at: usize, size: u32, n: u32, p: u8, namers: &mut [u64; 512]) -> OnePart
-    requires { ⌜ (size ≤ 512) × (n < 512) ⌝ }
+    requires { ⌜ (size ≤ 512) × (n < 512) × (length (now namers) ≡ 512) ⌝ }
     ensures { λ r. ⌜ PartAnswer (now (s .entry)) (now (namers .entry)) (now (namers .exit)) (run (kidsOn size n p) at (drop at (now (s .entry)))) r ⌝ }
 {
     match read_number(s, at) {
@@ -144,7 +152,7 @@ fn read_part(
     n: usize,
     namers: &mut [u64; 512],
 ) -> OnePart
-    requires { ⌜ (count ≤ 64) × (size ≤ 512) × (n < 512) ⌝ }
+    requires { ⌜ (count ≤ 64) × (size ≤ 512) × (n < 512) × (length (now namers) ≡ 512) ⌝ }
     ensures { λ r. ⌜ PartAnswer (now (s .entry)) (now (namers .entry)) (now (namers .exit))
         (run (partAt (parentAt (now (parent .entry))) count size n (getD (now (namers .entry)) n 0)) at (drop at (now (s .entry)))) r ⌝ }
 {
@@ -165,7 +173,7 @@ fn read_parts(
     path: &mut [u8; 512],
     place: &mut [usize; 512],
 ) -> Section
-    requires { ⌜ (count ≤ 64) × (size ≤ 512) ⌝ }
+    requires { ⌜ (count ≤ 64) × (size ≤ 512) × (length (now path) ≡ 512) × (length (now place) ≡ 512) ⌝ }
     ensures { λ r. ⌜ PartsAnswer (now (s .entry)) (now (path .exit)) (now (place .exit))
         (run (moreParts (parentAt (now (parent .entry))) count size size []) at (drop at (now (s .entry)))) r ⌝ }
 {
@@ -189,7 +197,7 @@ fn read_parts(
 }
 
 // The parts that were read, unless bytes are left over.
-fn listed(s: &[u8], size: usize, end: Section) -> Listed
+fn to_end(s: &[u8], size: usize, end: Section) -> Listed
     ensures { λ r. ⌜ r ≡ listedAnswer (length (now (s .entry))) size end ⌝ }
 {
     match end {
@@ -204,14 +212,14 @@ fn listed(s: &[u8], size: usize, end: Section) -> Listed
 }
 
 // A document of a table of `count` paths with these parents: its parts' paths and the places of their child counts.
-pub fn read_document(
+pub(crate) fn read_document(
     s: &[u8],
     parent: &[u8; 64],
     count: u32,
     path: &mut [u8; 512],
     place: &mut [usize; 512],
 ) -> Listed
-    requires { ⌜ count ≤ 64 ⌝ }
+    requires { ⌜ (count ≤ 64) × (length (now path) ≡ 512) × (length (now place) ≡ 512) ⌝ }
     ensures { λ r. ⌜ DocumentAnswer (now (s .entry)) (now (path .exit)) (now (place .exit))
         (runAll (documentFile (parentAt (now (parent .entry))) count) (now (s .entry))) r ⌝ }
 {
@@ -219,7 +227,7 @@ pub fn read_document(
         Number::Refused(why) => Listed::Refused(why, 0),
         Number::Is(size, width) => {
             let many = wide_number(size);
-            listed(s, many, read_parts(s, width, parent, count, many, path, place))
+            to_end(s, many, read_parts(s, width, parent, count, many, path, place))
         }
     }
 }
