@@ -6,3 +6,6 @@ pub mod Extent
 pub mod Shared
 pub mod Climbing
 pub mod PartReader
+pub mod PartLists
+pub mod Holding
+pub mod Judging

@@ -182,7 +182,7 @@ pub kids-start : (s : List ℕ) (at size n p many : ℕ) (l : List ℕ) → leng
 kids-start s at size n p many l long h = record { ks = []; kids = refl; marked = mark-none p l; long = long; small = h; rest = refl }
 
 -- a number that stands where a child is wanted
-kids-one : (s : List ℕ) (next left x width : ℕ) → 0 < left → numberIn (drop next s) ≡ Is x width
+pub kids-one : (s : List ℕ) (next left x width : ℕ) → 0 < left → numberIn (drop next s) ≡ Is x width
     → kidsFrom s next left ≡ x ∷ kidsFrom s (next + width) (left - 1)
 unfolding kidsFrom onKid
 kids-one s next left x width h e =

@@ -5,42 +5,34 @@ use Rattle.documents.proofs.check.breaks.Reads as reads
 use Rattle.documents.proofs.check.breaks.Lts as lts
 use Rattle.files.proofs.read.wide.Reads as wide-reads
 use Rattle.files.proofs.sets.has.Reads as has-reads
+use Rattle.documents.proofs.Judging.{breaks-laws}
 
--- src/check.rt:60:22
 wide-requires : tie.Need-wide-requires
 wide-requires c κs = search needs
 
--- src/check.rt:60:9
 has-requires : tie.Need-has-requires
 has-requires c κs = search needs
 
--- src/check.rt:61:22
 wide-requires-2 : tie.Need-wide-requires-2
 wide-requires-2 c κs = search needs
 
--- src/check.rt:61:9
 has-requires-2 : tie.Need-has-requires-2
 has-requires-2 c κs = search needs
 
--- src/check.rt:64:13
 returns : tie.Need-returns
-returns c = ?
+returns c = search (needs, breaks-laws)
 
--- src/check.rt:66:9
 returns-2 : tie.Need-returns-2
-returns-2 c = ?
+returns-2 c = search (needs, breaks-laws)
 
--- src/check.rt:69:9
 returns-3 : tie.Need-returns-3
-returns-3 c = ?
+returns-3 c = search (needs, breaks-laws)
 
--- src/check.rt:72:9
 returns-4 : tie.Need-returns-4
-returns-4 c = ?
+returns-4 c = search (needs, breaks-laws)
 
--- src/check.rt:57:1
 returns-5 : tie.Need-returns-5
-returns-5 c = ?
+returns-5 c = search (needs, breaks-laws)
 
 pub breaks-spec : {M : Type 1} → statement M
 breaks-spec =

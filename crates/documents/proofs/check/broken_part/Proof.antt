@@ -4,56 +4,49 @@ use Rattle.documents.proofs.check.broken_part.Reads as reads
 use Rattle.documents.proofs.check.broken_part.Lts as lts
 use Rattle.documents.proofs.check.breaks.Reads as breaks-reads
 use Rattle.documents.proofs.check.wide16.Reads as wide16-reads
+use borrow.Author.Needs.{needs}
+use Rattle.documents.proofs.Judging.{AlongSoFar, along-laws}
+use Prim.Native.Nat.{_-_}
+use Rattle.documents.specs.Held.{rule}
 
 abbrev Inv-loop : tie.InvT-loop
-Inv-loop kind left right start count sets next n₀ n = ?
+Inv-loop kind left right start count sets next n₀ n = AlongSoFar (rule kind left right) sets next count start n
 
 abbrev μ-loop : tie.MeasureT-loop
-μ-loop kind left right start count sets next n₀ n = ?
+μ-loop kind left right start count sets next n₀ n = count - n
 
--- src/check.rt:91:5
 loop-holds : tie.Need-loop-holds Inv-loop μ-loop
-loop-holds c = ?
+loop-holds c = search (needs, along-laws)
 
--- src/check.rt:92:38
 mul-breaks : tie.Need-mul-breaks Inv-loop μ-loop
-mul-breaks c = ?
+mul-breaks c = search (needs, along-laws)
 
--- src/check.rt:92:38
 element-copy-out-breaks : tie.Need-element-copy-out-breaks Inv-loop μ-loop
-element-copy-out-breaks c = ?
+element-copy-out-breaks c = search (needs, along-laws)
 
--- src/check.rt:92:12
 breaks-requires : tie.Need-breaks-requires Inv-loop μ-loop
-breaks-requires c κs = ?
+breaks-requires c κs = search (needs, along-laws)
 
--- src/check.rt:93:13
 returns : tie.Need-returns Inv-loop μ-loop
-returns c = ?
+returns c = search (needs, along-laws)
 
--- src/check.rt:95:20
 mul-wide16 : tie.Need-mul-wide16 Inv-loop μ-loop
-mul-wide16 c = ?
+mul-wide16 c = search (needs, along-laws)
 
--- src/check.rt:95:20
 element-copy-out-wide16 : tie.Need-element-copy-out-wide16 Inv-loop μ-loop
-element-copy-out-wide16 c = ?
+element-copy-out-wide16 c = search (needs, along-laws)
 
--- src/check.rt:95:9
 wide16-requires : tie.Need-wide16-requires Inv-loop μ-loop
-wide16-requires c κs = ?
+wide16-requires c κs = search (needs, along-laws)
 
--- src/check.rt:91:5
 loop-less : tie.Need-loop-less Inv-loop μ-loop
-loop-less c = ?
+loop-less c = search (needs, along-laws)
 
--- src/check.rt:91:5
 loop-again : tie.Need-loop-again Inv-loop μ-loop
-loop-again c = ?
+loop-again c = search (needs, along-laws)
 
--- src/check.rt:78:1
 returns-2 : tie.Need-returns-2 Inv-loop μ-loop
-returns-2 c = ?
+returns-2 c = search (needs, along-laws)
 
 pub broken-part-spec : {M : Type 1} → statement M
 broken-part-spec =

@@ -3,60 +3,55 @@ use Rattle.documents.proofs.check.broken_rule.Tie as tie
 use Rattle.documents.proofs.check.broken_rule.Reads as reads
 use Rattle.documents.proofs.check.broken_rule.Lts as lts
 use Rattle.documents.proofs.check.rule_broken.Reads as rule-broken-reads
+use borrow.Author.Needs.{needs}
+use Rattle.documents.proofs.Judging.{rules-laws}
+use Prim.Native.Nat.{_-_}
+use mathlib.Core.Path.{_≡_}
+use Rattle.files.specs.Rules.{rulesFrom}
+use Rattle.documents.specs.Reading.{parentAt}
+use Rattle.documents.specs.Held.{brokenAlong}
 
 abbrev Inv-loop : tie.InvT-loop
-Inv-loop kind left right many parent count sets first next r₀ r = ?
+Inv-loop kind left right many parent count sets first next r₀ r = brokenAlong (parentAt parent) count sets first next r (rulesFrom kind left right r (many - r)) ≡ brokenAlong (parentAt parent) count sets first next 0 (rulesFrom kind left right 0 many)
 
 abbrev μ-loop : tie.MeasureT-loop
-μ-loop kind left right many parent count sets first next r₀ r = ?
+μ-loop kind left right many parent count sets first next r₀ r = many - r
 
--- src/check.rt:136:5
 loop-holds : tie.Need-loop-holds Inv-loop μ-loop
-loop-holds c = ?
+loop-holds c = search (needs, rules-laws)
 
--- src/check.rt:137:27
 element-copy-out-rule-broken : tie.Need-element-copy-out-rule-broken Inv-loop μ-loop
-element-copy-out-rule-broken c = ?
+element-copy-out-rule-broken c = search (needs, rules-laws)
 
--- src/check.rt:137:36
 element-copy-out-rule-broken-2 : tie.Need-element-copy-out-rule-broken-2 Inv-loop μ-loop
-element-copy-out-rule-broken-2 c = ?
+element-copy-out-rule-broken-2 c = search (needs, rules-laws)
 
--- src/check.rt:137:45
 element-copy-out-rule-broken-3 : tie.Need-element-copy-out-rule-broken-3 Inv-loop μ-loop
-element-copy-out-rule-broken-3 c = ?
+element-copy-out-rule-broken-3 c = search (needs, rules-laws)
 
--- src/check.rt:137:15
 rule-broken-requires : tie.Need-rule-broken-requires Inv-loop μ-loop
-rule-broken-requires c κs = ?
+rule-broken-requires c κs = search (needs, rules-laws)
 
--- src/check.rt:138:23
 enum-known-n : tie.Need-enum-known-n Inv-loop μ-loop
-enum-known-n c = ?
+enum-known-n c = search (needs, rules-laws)
 
--- src/check.rt:139:17
 returns : tie.Need-returns Inv-loop μ-loop
-returns c = ?
+returns c = search (needs, rules-laws)
 
--- src/check.rt:142:17
 enum-told : tie.Need-enum-told Inv-loop μ-loop
-enum-told c = ?
+enum-told c = search (needs, rules-laws)
 
--- src/check.rt:142:17
 add-r : tie.Need-add-r Inv-loop μ-loop
-add-r c = ?
+add-r c = search (needs, rules-laws)
 
--- src/check.rt:136:5
 loop-less : tie.Need-loop-less Inv-loop μ-loop
-loop-less c = ?
+loop-less c = search (needs, rules-laws)
 
--- src/check.rt:136:5
 loop-again : tie.Need-loop-again Inv-loop μ-loop
-loop-again c = ?
+loop-again c = search (needs, rules-laws)
 
--- src/check.rt:120:1
 returns-2 : tie.Need-returns-2 Inv-loop μ-loop
-returns-2 c = ?
+returns-2 c = search (needs, rules-laws)
 
 pub broken-rule-spec : {M : Type 1} → statement M
 broken-rule-spec =

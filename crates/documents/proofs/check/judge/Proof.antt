@@ -6,26 +6,22 @@ use Rattle.documents.proofs.check.judge.Lts as lts
 use Rattle.documents.proofs.check.broken_rule.Reads as broken-rule-reads
 use Rattle.documents.proofs.check.verdict.Reads as verdict-reads
 use Rattle.documents.proofs.held.hold_all.Reads as hold-all-reads
+use Rattle.documents.proofs.Judging.{judge-laws}
 
--- src/check.rt:187:5
 hold-all-requires : tie.Need-hold-all-requires
 hold-all-requires c κs = search needs
 
--- src/check.rt:191:9
 broken-rule-requires : tie.Need-broken-rule-requires
-broken-rule-requires c κs = ?
+broken-rule-requires c κs = search (needs, judge-laws)
 
--- src/check.rt:192:29
 array-read-verdict : tie.Need-array-read-verdict
 array-read-verdict c = search needs
 
--- src/check.rt:192:5
 verdict-requires : tie.Need-verdict-requires
 verdict-requires c κs = search needs
 
--- src/check.rt:171:1
 returns : tie.Need-returns
-returns c = ?
+returns c = search (needs, judge-laws)
 
 pub judge-spec : {M : Type 1} → statement M
 judge-spec =

@@ -5,22 +5,19 @@ use Rattle.documents.proofs.check.missing.Reads as reads
 use Rattle.documents.proofs.check.missing.Lts as lts
 use Rattle.files.proofs.sets.difference.Reads as difference-reads
 use Rattle.files.proofs.sets.lowest.Reads as lowest-reads
+use Rattle.documents.proofs.Judging.{missing-laws}
 
--- src/check.rt:153:9
 difference-requires : tie.Need-difference-requires
 difference-requires c κs = search needs
 
--- src/check.rt:155:9
 returns : tie.Need-returns
-returns c = ?
+returns c = search (needs, missing-laws)
 
--- src/check.rt:157:22
 lowest-requires : tie.Need-lowest-requires
 lowest-requires c κs = search needs
 
--- src/check.rt:150:1
 returns-2 : tie.Need-returns-2
-returns-2 c = ?
+returns-2 c = search (needs, missing-laws)
 
 pub missing-spec : {M : Type 1} → statement M
 missing-spec = tie.close (tie.spec difference-requires returns lowest-requires returns-2)

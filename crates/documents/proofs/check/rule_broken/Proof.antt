@@ -7,34 +7,28 @@ use Rattle.documents.proofs.check.broken_part.Reads as broken-part-read
 use Rattle.documents.proofs.check.wide16.Reads as wide16-reads
 use Rattle.documents.proofs.context.context.Reads as context-reads
 use Rattle.files.proofs.read.wide.Reads as wide-reads
+use Rattle.documents.proofs.Judging.{rule-is}
 
--- src/check.rt:115:18
 context-requires : tie.Need-context-requires
 context-requires c κs = search needs
 
--- src/check.rt:115:9
 wide-requires : tie.Need-wide-requires
 wide-requires c κs = search needs
 
--- src/check.rt:116:43
 mul-wide16 : tie.Need-mul-wide16
 mul-wide16 c = search needs
 
--- src/check.rt:116:43
 element-copy-out-wide16 : tie.Need-element-copy-out-wide16
 element-copy-out-wide16 c = search needs
 
--- src/check.rt:116:36
 wide16-requires : tie.Need-wide16-requires
 wide16-requires c κs = search needs
 
--- src/check.rt:116:5
 broken-part-requires : tie.Need-broken-part-requires
 broken-part-requires c κs = search needs
 
--- src/check.rt:101:1
 returns : tie.Need-returns
-returns c = ?
+returns c = search (needs, rule-is)
 
 pub rule-broken-spec : {M : Type 1} → statement M
 rule-broken-spec =

@@ -7,38 +7,31 @@ use Rattle.documents.proofs.document.read_parts.Reads as read-parts-rea
 use Rattle.documents.proofs.document.to_end.Reads as to-end-reads
 use Rattle.files.proofs.read.read_between.Reads as read-between-reads
 use Rattle.files.proofs.read.wide_number.Reads as wide-number-reads
+use Rattle.documents.proofs.PartLists.{document-laws}
 
--- src/document.rt:226:11
 read-between-requires : tie.Need-read-between-requires
 read-between-requires c κs = search needs
 
--- src/document.rt:227:25
 enum-known-why : tie.Need-enum-known-why
 enum-known-why c = search needs
 
--- src/document.rt:228:20
 enum-known-size : tie.Need-enum-known-size
 enum-known-size c = search needs
 
--- src/document.rt:229:17
 wide-number-requires : tie.Need-wide-number-requires
 wide-number-requires c κs = search needs
 
--- src/document.rt:230:29
 read-parts-requires : tie.Need-read-parts-requires
-read-parts-requires c κs = ?
+read-parts-requires c κs = search (needs, document-laws)
 
--- src/document.rt:230:13
 to-end-requires : tie.Need-to-end-requires
 to-end-requires c κs = search needs
 
--- src/document.rt:215:1
 returns : tie.Need-returns
-returns c = ?
+returns c = search (needs, document-laws)
 
--- src/document.rt:215:1
 returns-2 : tie.Need-returns-2
-returns-2 c = ?
+returns-2 c = search (needs, document-laws)
 
 pub read-document-spec : {M : Type 1} → statement M
 read-document-spec =

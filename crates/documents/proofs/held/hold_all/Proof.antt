@@ -5,92 +5,75 @@ use Rattle.documents.proofs.held.hold_all.Lts as lts
 use Rattle.documents.proofs.held.children_hold.Reads as children-hold-reads
 use Rattle.files.proofs.read.wide.Reads as wide-reads
 use Rattle.files.proofs.sets.with.Reads as with-reads
+use borrow.Author.Needs.{needs}
+use Rattle.documents.proofs.Holding.{link-laws}
+use Rattle.documents.specs.Held.{Linked}
 
 abbrev Inv-loop : tie.InvT-loop
-Inv-loop s count path place sets₀ first₀ next₀ n₀ sets first next n = ?
+Inv-loop s count path place sets₀ first₀ next₀ n₀ sets first next n = Linked s path place count n sets first next
 
 abbrev μ-loop : tie.MeasureT-loop
-μ-loop s count path place sets₀ first₀ next₀ n₀ sets first next n = ?
+μ-loop s count path place sets₀ first₀ next₀ n₀ sets first next n = n
 
--- src/held.rt:73:5
 loop-holds : tie.Need-loop-holds Inv-loop μ-loop
-loop-holds c = ?
+loop-holds c = search (needs, link-laws)
 
--- src/held.rt:74:9
 sub-n : tie.Need-sub-n Inv-loop μ-loop
-sub-n c = ?
+sub-n c = search (needs, link-laws)
 
--- src/held.rt:75:22
 element-copy-out-wide : tie.Need-element-copy-out-wide Inv-loop μ-loop
-element-copy-out-wide c = ?
+element-copy-out-wide c = search (needs, link-laws)
 
--- src/held.rt:75:13
 wide-requires : tie.Need-wide-requires Inv-loop μ-loop
-wide-requires c κs = ?
+wide-requires c κs = search (needs, link-laws)
 
--- src/held.rt:76:36
 mul-children-hold : tie.Need-mul-children-hold Inv-loop μ-loop
-mul-children-hold c = ?
+mul-children-hold c = search (needs, link-laws)
 
--- src/held.rt:76:36
 element-copy-out-children-hold : tie.Need-element-copy-out-children-hold Inv-loop μ-loop
-element-copy-out-children-hold c = ?
+element-copy-out-children-hold c = search (needs, link-laws)
 
--- src/held.rt:76:13
 children-hold-requires : tie.Need-children-hold-requires Inv-loop μ-loop
-children-hold-requires c κs = ?
+children-hold-requires c κs = search (needs, link-laws)
 
--- src/held.rt:77:19
 with-requires : tie.Need-with-requires Inv-loop μ-loop
-with-requires c κs = ?
+with-requires c κs = search (needs, link-laws)
 
--- src/held.rt:77:9
 mul-sets : tie.Need-mul-sets Inv-loop μ-loop
-mul-sets c = ?
+mul-sets c = search (needs, link-laws)
 
--- src/held.rt:77:9
 element-write-sets : tie.Need-element-write-sets Inv-loop μ-loop
-element-write-sets c = ?
+element-write-sets c = search (needs, link-laws)
 
--- src/held.rt:78:19
 mul-next : tie.Need-mul-next Inv-loop μ-loop
-mul-next c = ?
+mul-next c = search (needs, link-laws)
 
--- src/held.rt:78:19
 element-copy-out-next : tie.Need-element-copy-out-next Inv-loop μ-loop
-element-copy-out-next c = ?
+element-copy-out-next c = search (needs, link-laws)
 
--- src/held.rt:78:9
 mul-next-2 : tie.Need-mul-next-2 Inv-loop μ-loop
-mul-next-2 c = ?
+mul-next-2 c = search (needs, link-laws)
 
--- src/held.rt:78:9
 element-write-next : tie.Need-element-write-next Inv-loop μ-loop
-element-write-next c = ?
+element-write-next c = search (needs, link-laws)
 
--- src/held.rt:79:20
 cast-first : tie.Need-cast-first Inv-loop μ-loop
-cast-first c = ?
+cast-first c = search (needs, link-laws)
 
--- src/held.rt:79:9
 mul-first : tie.Need-mul-first Inv-loop μ-loop
-mul-first c = ?
+mul-first c = search (needs, link-laws)
 
--- src/held.rt:79:9
 element-write-first : tie.Need-element-write-first Inv-loop μ-loop
-element-write-first c = ?
+element-write-first c = search (needs, link-laws)
 
--- src/held.rt:73:5
 loop-less : tie.Need-loop-less Inv-loop μ-loop
-loop-less c = ?
+loop-less c = search (needs, link-laws)
 
--- src/held.rt:73:5
 loop-again : tie.Need-loop-again Inv-loop μ-loop
-loop-again c = ?
+loop-again c = search (needs, link-laws)
 
--- src/held.rt:59:1
 returns : tie.Need-returns Inv-loop μ-loop
-returns c = ?
+returns c = search (needs, link-laws)
 
 pub hold-all-spec : {M : Type 1} → statement M
 hold-all-spec =

@@ -6,64 +6,57 @@ use Rattle.documents.proofs.held.set_of.Reads as set-of-reads
 use Rattle.files.proofs.number.read_number.Reads as read-number-reads
 use Rattle.files.proofs.read.wide_number.Reads as wide-number-reads
 use Rattle.files.proofs.sets.union.Reads as union-reads
+use borrow.Author.Needs.{needs}
+use Rattle.documents.proofs.Holding.{hold-laws}
+use mathlib.Core.Path.{_≡_}
+use Rattle.files.specs.Sets.{union}
+use Rattle.documents.specs.Reading.{kidsFrom}
+use Rattle.documents.specs.Held.{heldAmong}
 
 abbrev Inv-loop : tie.InvT-loop
-Inv-loop s at many sets set₀ next₀ left₀ set next left = ?
+Inv-loop s at many sets set₀ next₀ left₀ set next left = union set (heldAmong sets (kidsFrom s next left)) ≡ heldAmong sets (kidsFrom s at many)
 
 abbrev μ-loop : tie.MeasureT-loop
-μ-loop s at many sets set₀ next₀ left₀ set next left = ?
+μ-loop s at many sets set₀ next₀ left₀ set next left = left
 
--- src/held.rt:33:5
 loop-holds : tie.Need-loop-holds Inv-loop μ-loop
-loop-holds c = ?
+loop-holds c = search (needs, hold-laws)
 
--- src/held.rt:34:15
 read-number-requires : tie.Need-read-number-requires Inv-loop μ-loop
-read-number-requires c κs = ?
+read-number-requires c κs = search (needs, hold-laws)
 
--- src/held.rt:36:17
 enum-told : tie.Need-enum-told Inv-loop μ-loop
-enum-told c = ?
+enum-told c = search (needs, hold-laws)
 
--- src/held.rt:36:17
 returns : tie.Need-returns Inv-loop μ-loop
-returns c = ?
+returns c = search (needs, hold-laws)
 
--- src/held.rt:38:24
 enum-known-k : tie.Need-enum-known-k Inv-loop μ-loop
-enum-known-k c = ?
+enum-known-k c = search (needs, hold-laws)
 
--- src/held.rt:39:47
 wide-number-requires : tie.Need-wide-number-requires Inv-loop μ-loop
-wide-number-requires c κs = ?
+wide-number-requires c κs = search (needs, hold-laws)
 
--- src/held.rt:39:34
 set-of-requires : tie.Need-set-of-requires Inv-loop μ-loop
-set-of-requires c κs = ?
+set-of-requires c κs = search (needs, hold-laws)
 
--- src/held.rt:39:17
 union-requires : tie.Need-union-requires Inv-loop μ-loop
-union-requires c κs = ?
+union-requires c κs = search (needs, hold-laws)
 
--- src/held.rt:40:17
 add-next : tie.Need-add-next Inv-loop μ-loop
-add-next c = ?
+add-next c = search (needs, hold-laws)
 
--- src/held.rt:41:17
 sub-left : tie.Need-sub-left Inv-loop μ-loop
-sub-left c = ?
+sub-left c = search (needs, hold-laws)
 
--- src/held.rt:33:5
 loop-less : tie.Need-loop-less Inv-loop μ-loop
-loop-less c = ?
+loop-less c = search (needs, hold-laws)
 
--- src/held.rt:33:5
 loop-again : tie.Need-loop-again Inv-loop μ-loop
-loop-again c = ?
+loop-again c = search (needs, hold-laws)
 
--- src/held.rt:27:1
 returns-2 : tie.Need-returns-2 Inv-loop μ-loop
-returns-2 c = ?
+returns-2 c = search (needs, hold-laws)
 
 pub kids-hold-spec : {M : Type 1} → statement M
 kids-hold-spec =
