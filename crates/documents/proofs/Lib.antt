@@ -6,6 +6,7 @@ pub mod Extent
 pub mod Shared
 pub mod Climbing
 pub mod PartReader
+pub mod PartTests
 pub mod PartLists
 pub mod Holding
 pub mod Judging

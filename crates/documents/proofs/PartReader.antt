@@ -30,7 +30,7 @@ use Rattle.documents.specs.Reading.KidsAnswer.{read as kids-read, stoppe
 use Rattle.documents.specs.Reading.PartAnswer.{read as part-read, stopped as part-stopped}
 
 -- the set of one path
-with-zero : (x : ℕ) → x < 64 → withPath 0 x ≡ 2 ^ x
+pub with-zero : (x : ℕ) → x < 64 → withPath 0 x ≡ 2 ^ x
 with-zero x h = with-new 0 x h (bit-of-zero x) ∙ zero-add (2 ^ x)
 
 -- ---- the test of a part's path

@@ -1,13 +1,14 @@
 -- A document as a list of parts: its numbers in order, the refusal that each may meet, and the tree that the list stands for.
-use Prim.Native.Nat.{ℕ, zero, suc, _+_, _^_}
+use Prim.Native.Nat.{ℕ, zero, suc, _+_, _^_, _<_, _≤_}
 use mathlib.Core.Path.{_≡_}
 use mathlib.Core.Bool.{Bool, true, false, cond}
-use mathlib.Core.List.{List, [], _∷_, _++_, map}
+use mathlib.Core.List.{List, [], _∷_, _++_, map, List·Memᴰ}
 use lib.ListN.{length, getD}
 use lib.Dec.{ltb, leb, eqb}
 use Rattle.files.specs.Format.{Format, done, want, andThen}
 use Rattle.files.specs.RuleFile.{between, any}
 use Rattle.files.specs.Rules.{addAll}
+use Rattle.files.specs.Sets.{Ascending}
 use Rattle.documents.specs.Tree.{Forest}
 use Rattle.documents.specs.Parts.{Unfolds}
 
@@ -68,6 +69,43 @@ entryPath es n = getD (map (λ (e : Entry). e .path) es) n 0
 
 unfoldable pub entryKids : List Entry → ℕ → List ℕ
 entryKids es n = getD (map (λ (e : Entry). e .kids) es) n []
+
+-- the numbers of parts: of each its path, its child count and its children
+unfoldable pub partNumbers : List Entry → List ℕ
+partNumbers [] = []
+partNumbers (e ∷ es) = e .path ∷ length (e .kids) ∷ (e .kids ++ partNumbers es)
+
+-- the numbers of a document: its part count, then its parts
+unfoldable pub documentNumbers : List Entry → List ℕ
+documentNumbers es = length es ∷ partNumbers es
+
+-- a part of the list names part k
+pub record Namer (es : List Entry) (k : ℕ) : Type 0 where
+  pub part : ℕ
+  pub listed : part < length es
+  pub names : List·Memᴰ k (entryKids es part)
+
+-- part k is named by an earlier part
+pub record NamedEarlier (es : List Entry) (k : ℕ) : Type 0 where
+  pub by : Namer es k
+  pub earlier : by .part < k
+
+-- a part list that breaks no condition of 01, in a table of `count` paths
+pub record ValidParts (parent : ℕ → ℕ) (count : ℕ) (es : List Entry) : Type 0 where
+  -- 1 to 512 parts
+  pub some : 1 ≤ length es
+  pub most : length es ≤ 512
+  -- part 0 is on path 0, every part on a path of the table
+  pub root : entryPath es 0 ≡ 0
+  pub inside : (n : ℕ) → n < length es → entryPath es n < count
+  -- child numbers ascend strictly, above their parent's and below the part count
+  pub kids : (n : ℕ) → n < length es → Ascending (suc n) (entryKids es n)
+  pub below : (n k : ℕ) → n < length es → List·Memᴰ k (entryKids es n) → k < length es
+  -- every part after 0 is named by an earlier part
+  pub named : (k : ℕ) → 0 < k → k < length es → NamedEarlier es k
+  -- a part that is named is not on path 0, and all its namers are on its path's parent
+  pub inner : (n k : ℕ) → n < length es → List·Memᴰ k (entryKids es n) → 0 < entryPath es k
+  pub parent-is : (n k : ℕ) → n < length es → List·Memᴰ k (entryKids es n) → parent (entryPath es k) ≡ entryPath es n
 
 -- the list stands for the tree in which each naming of a part gets a copy of its own, from part 0 on
 pub record StandsFor (es : List Entry) (d : Forest) : Type 0 where
