@@ -7,6 +7,9 @@ pub mod Shared
 pub mod Climbing
 pub mod PartReader
 pub mod PartTests
+pub mod PartNumbers
+pub mod ValidLists
 pub mod PartLists
 pub mod Holding
 pub mod Judging
+pub mod Checks

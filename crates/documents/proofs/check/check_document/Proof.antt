@@ -5,26 +5,23 @@ use Rattle.documents.proofs.check.check_document.Reads as reads
 use Rattle.documents.proofs.check.check_document.Lts as lts
 use Rattle.documents.proofs.check.check_parts.Reads as check-parts-reads
 use Rattle.files.proofs.valid.valid_table.Reads as valid-table-reads
+use Rattle.documents.proofs.Checks.{answer-laws}
+use Rattle.files.proofs.Writer.{some-paths, few-paths, few-rules}
 
--- src/check.rt:215:9
 valid-table-requires : tie.Need-valid-table-requires
 valid-table-requires c κs = search needs
 
--- src/check.rt:216:9
 returns : tie.Need-returns
-returns c = ?
+returns c = search (needs, answer-laws, some-paths, few-paths, few-rules)
 
--- src/check.rt:219:9
 returns-2 : tie.Need-returns-2
-returns-2 c = ?
+returns-2 c = search (needs, answer-laws, some-paths, few-paths, few-rules)
 
--- src/check.rt:221:5
 check-parts-requires : tie.Need-check-parts-requires
-check-parts-requires c κs = ?
+check-parts-requires c κs = search (needs, answer-laws, some-paths, few-paths, few-rules)
 
--- src/check.rt:212:1
 returns-3 : tie.Need-returns-3
-returns-3 c = ?
+returns-3 c = search (needs, answer-laws, some-paths, few-paths, few-rules)
 
 pub check-document-spec : {M : Type 1} → statement M
 check-document-spec =
