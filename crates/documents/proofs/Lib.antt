@@ -13,3 +13,8 @@ pub mod PartLists
 pub mod Holding
 pub mod Judging
 pub mod Checks
+pub mod PartTrees
+pub mod HeldWords
+pub mod RuleBreaks
+pub mod TreeBreaks
+pub mod CheckingJoins

@@ -19,6 +19,7 @@ use Rattle.documents.specs.declared.check.Break.{Break}
 use Rattle.documents.specs.declared.check.Break.the-variants.{Unbroken}
 use Rattle.documents.specs.Paths.{contextOf}
 use Rattle.documents.specs.PartList.{Entry, documentFile}
+use Rattle.documents.specs.Judgement.{Judged}
 
 -- the sets of paths that parts hold, all that parts hold which a list of numbers names: `sets` has those of the parts from
 -- number `first` on
@@ -82,7 +83,11 @@ checkAnswer t s =
     (judged (parentIn (rulesOf t .paths)) (rulesOf t .rules) (t .required) (runAll (documentFile (parentIn (rulesOf t .paths)) (t .paths)) s)))
     (Refused 12 0)
 
--- what checking a document promises
+-- what checking a document promises, on every table and all bytes
 pub record CheckDocument (t : Rules) (s : List ℕ) (r : Checked) : Type 0 where
   -- the answer
   pub answer : r ≡ checkAnswer t s
+  -- the answer is so: the refusal is met, the document obeys, the rule and the part are the least that break, the path the least missing
+  pub so : Judged t s r
+  -- and it is given wherever it is so: no other answer is
+  pub only : (q : Checked) → Judged t s q → q ≡ r

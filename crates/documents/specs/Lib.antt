@@ -4,6 +4,7 @@ pub mod Obey
 pub mod Parts
 pub mod Extent
 pub mod PartList
+pub mod Judgement
 pub mod Reading
 pub mod Checking
 pub mod Held
