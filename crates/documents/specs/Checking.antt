@@ -13,8 +13,13 @@ use Rattle.files.specs.Table.{Rule, parentIn}
 use Rattle.files.specs.Writing.{tablePasses}
 use Rattle.documents.specs.declared.check.Checked.{Checked}
 use Rattle.documents.specs.declared.check.Checked.the-variants.{Obeys, Broken, Missing, Refused}
+use Rattle.documents.specs.declared.check.Place.{Place}
+use Rattle.documents.specs.declared.check.Place.the-variants.{At, Nowhere}
+use Rattle.documents.specs.declared.check.Break.{Break}
+use Rattle.documents.specs.declared.check.Break.the-variants.{Unbroken}
 use Rattle.documents.specs.Paths.{contextOf}
 use Rattle.documents.specs.PartList.{Entry, documentFile}
+use Rattle.documents.specs.Judgement.{Judged}
 
 -- the sets of paths that parts hold, all that parts hold which a list of numbers names: `sets` has those of the parts from
 -- number `first` on
@@ -38,30 +43,21 @@ breaks ru set =
     (cond (eqb (ru .kind) 2) (cond (hasb set (ru .left)) (hasb set (ru .right)) false)
     (cond (hasb set (ru .left)) (not (hasb set (ru .right))) (hasb set (ru .right))))
 
--- where in a list something stands: its number, or nowhere
-pub data Place : Type 0 where
-  at : ℕ → Place
-  nowhere : Place
-
 -- the least part from number n on that is on path c and breaks the rule
 unfoldable pub breakFrom : Rule → ℕ → ℕ → List Entry → List ℕ → Place
-breakFrom ru c n [] sets = nowhere
-breakFrom ru c n (e ∷ es) [] = nowhere
+breakFrom ru c n [] sets = Nowhere
+breakFrom ru c n (e ∷ es) [] = Nowhere
 breakFrom ru c n (e ∷ es) (set ∷ sets) =
-    cond (cond (eqb (e .path) c) (breaks ru set) false) (at n) (breakFrom ru c (n + 1) es sets)
-
--- the least broken rule from number r on, and the least part that breaks it
-pub data Break : Type 0 where
-  broken : ℕ → ℕ → Break
-  unbroken : Break
+    cond (cond (eqb (e .path) c) (breaks ru set) false) (At n) (breakFrom ru c (n + 1) es sets)
 
 -- a rule with a part that breaks it, or the rules after it
 unfoldable pub orLater : ℕ → Place → Break → Break
-orLater r (at n) later = broken r n
-orLater r nowhere later = later
+orLater r (At n) later = Break.Broken r n
+orLater r Nowhere later = later
 
+-- the least broken rule from number r on, and the least part that breaks it
 unfoldable pub brokenFrom : (parent : ℕ → ℕ) → ℕ → List Rule → List Entry → List ℕ → Break
-brokenFrom parent r [] es sets = unbroken
+brokenFrom parent r [] es sets = Unbroken
 brokenFrom parent r (ru ∷ rules) es sets =
     orLater r (breakFrom ru (contextOf parent (ru .left) (ru .right)) 0 es sets) (brokenFrom parent (r + 1) rules es sets)
 
@@ -71,8 +67,8 @@ orMissing required set = cond (eqb (difference required set) 0) Obeys (Missing (
 
 -- the verdict on the parts: the least broken rule and its least part, else the least required path missing, else obeys
 unfoldable pub verdict : (required set : ℕ) → Break → Checked
-verdict required set (broken r n) = Broken r n
-verdict required set unbroken = orMissing required set
+verdict required set (Break.Broken r n) = Broken r n
+verdict required set Unbroken = orMissing required set
 
 -- the verdict on what reading the document answered
 unfoldable pub judged : (parent : ℕ → ℕ) → List Rule → (required : ℕ) → Outcome (List Entry) → Checked
@@ -86,3 +82,12 @@ checkAnswer t s =
     (cond (ltb 65536 (length s)) (Refused 14 0)
     (judged (parentIn (rulesOf t .paths)) (rulesOf t .rules) (t .required) (runAll (documentFile (parentIn (rulesOf t .paths)) (t .paths)) s)))
     (Refused 12 0)
+
+-- what checking a document promises, on every table and all bytes
+pub record CheckDocument (t : Rules) (s : List ℕ) (r : Checked) : Type 0 where
+  -- the answer
+  pub answer : r ≡ checkAnswer t s
+  -- the answer is so: the refusal is met, the document obeys, the rule and the part are the least that break, the path the least missing
+  pub so : Judged t s r
+  -- and it is given wherever it is so: no other answer is
+  pub only : (q : Checked) → Judged t s q → q ≡ r

@@ -3,5 +3,8 @@ pub mod Tree
 pub mod Obey
 pub mod Parts
 pub mod Extent
-pub mod Checking
 pub mod PartList
+pub mod Judgement
+pub mod Reading
+pub mod Checking
+pub mod Held

@@ -32,11 +32,10 @@ namers n (e ∷ es) = cond (listed n (e .kids)) (e .path ∷ namers n es) (namer
 unfoldable pub namedTest : (parent : ℕ → ℕ) (set p : ℕ) → ℕ
 namedTest parent set p = cond (eqb set 0) 17 (cond (eqb p 0) 18 (cond (eqb set (2 ^ parent p)) 0 18))
 
--- the test of a part's path, after the parts es, in a table of `count` paths: 16 first
-unfoldable pub pathTest : (parent : ℕ → ℕ) (count : ℕ) → List Entry → ℕ → ℕ
-pathTest parent count [] p = cond (eqb p 0) 0 16
-pathTest parent count (e ∷ es) p =
-    cond (ltb p count) (namedTest parent (addAll 0 (namers (length (e ∷ es)) (e ∷ es))) p) 16
+-- the test of the path p of part number n in a table of `count` paths, with the set of its namers' paths: 16 first, where
+-- part 0 is not on path 0 or another part's path is not in the table
+unfoldable pub pathTest : (parent : ℕ → ℕ) (count n set p : ℕ) → ℕ
+pathTest parent count n set p = cond (eqb n 0) (cond (eqb p 0) 0 16) (cond (ltb p count) (namedTest parent set p) 16)
 
 -- so many children more, above `last` and below the part count
 unfoldable pub moreKids : ℕ → ℕ → ℕ → List ℕ → Format (List ℕ)
@@ -47,9 +46,13 @@ moreKids size (suc k) last ks = want (between (last + 1) size 19) (λ x. moreKid
 unfoldable pub kidsOn : ℕ → ℕ → ℕ → Format Entry
 kidsOn size n p = want any (λ k. andThen (moreKids size k n []) (λ ks. done (record { path = p; kids = ks })))
 
+-- part number n, of which the namers' paths are the set
+unfoldable pub partAt : (parent : ℕ → ℕ) (count size n set : ℕ) → Format Entry
+partAt parent count size n set = want (pathTest parent count n set) (λ p. kidsOn size n p)
+
 -- one part, after the parts es
 unfoldable pub onePart : (parent : ℕ → ℕ) (count size : ℕ) → List Entry → Format Entry
-onePart parent count size es = want (pathTest parent count es) (λ p. kidsOn size (length es) p)
+onePart parent count size es = partAt parent count size (length es) (addAll 0 (namers (length es) es))
 
 -- so many parts more
 unfoldable pub moreParts : (parent : ℕ → ℕ) (count size : ℕ) → ℕ → List Entry → Format (List Entry)

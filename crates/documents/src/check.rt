@@ -1,4 +1,30 @@
 // Checking a document against the rules.
+ghost use Prim.Native.Nat.{ℕ, _+_, _≤_, _<_};
+ghost use mathlib.Core.Path.{_≡_};
+ghost use mathlib.Core.Bool.{true};
+ghost use mathlib.Core.List.{List, [], _∷_};
+ghost use lib.ListN.{length, getD, replicate};
+ghost use Rattle.files.specs.Format.{runAll};
+ghost use Rattle.files.specs.Rules.{rulesOf, rulesFrom};
+ghost use Rattle.files.specs.Table.{parentIn};
+ghost use Rattle.files.specs.Writing.{tablePasses};
+ghost use Rattle.documents.specs.Paths.{contextOf};
+ghost use Rattle.documents.specs.PartList.{documentFile};
+ghost use Rattle.documents.specs.Checking.{breaks, brokenFrom, held, orMissing, verdict, judged, CheckDocument};
+ghost use Rattle.documents.specs.Reading.{parentAt, entriesFrom};
+ghost use Rattle.documents.specs.Held.{Laid, Forward, rule, firstOn, breakAlong, brokenAlong};
+
+use files::rules::Rules;
+use files::number::wide;
+use files::sets::difference;
+use files::sets::has;
+use files::sets::lowest;
+use files::valid::valid_table;
+use crate::held::hold_all;
+use crate::document::Listed;
+use crate::document::read_document;
+use crate::context::context;
+use crate::context::parents;
 
 // Whether a document obeys: the least broken rule and the least part that breaks it, the least required path missing, or the
 // refusal's number and place.
@@ -7,4 +33,190 @@ pub enum Checked {
     Broken(usize, usize),
     Missing(usize),
     Refused(u8, usize),
+}
+
+// Where among the parts something stands: its number, or nowhere.
+pub enum Place {
+    At(usize),
+    Nowhere,
+}
+
+// The least broken rule and the least part that breaks it.
+pub enum Break {
+    Broken(usize, usize),
+    Unbroken,
+}
+
+fn wide16(b: u16) -> usize
+    ensures { λ r. ⌜ r ≡ b ⌝ }
+{
+    b as usize
+}
+
+// Whether a part on the context that holds the paths of `set` breaks the rule.
+fn breaks(kind: u8, left: u8, right: u8, set: u64) -> bool
+    ensures { λ r. ⌜ r ≡ breaks (rule kind left right) set ⌝ }
+{
+    let p = has(set, wide(left));
+    let q = has(set, wide(right));
+    if kind == 2 {
+        if p {
+            return q;
+        }
+        return false;
+    }
+    if p {
+        return !q;
+    }
+    if kind == 1 {
+        return false;
+    }
+    q
+}
+
+// The least part that breaks the rule, along the parts on one path from `start` on.
+fn broken_part(
+    kind: u8,
+    left: u8,
+    right: u8,
+    start: usize,
+    count: usize,
+    sets: &[u64; 512],
+    next: &[u16; 512],
+) -> Place
+    requires { ⌜ (count ≤ 512) × Forward count (now next) ⌝ }
+    ensures { λ r. ⌜ r ≡ breakAlong (rule kind left right) (now (sets .entry)) (now (next .entry)) count count start ⌝ }
+{
+    let mut n = start;
+    while n < count {
+        if breaks(kind, left, right, sets[n]) {
+            return Place::At(n);
+        }
+        n = wide16(next[n]);
+    }
+    Place::Nowhere
+}
+
+// The least part that breaks the rule: the parts on its context are looked at.
+fn rule_broken(
+    kind: u8,
+    left: u8,
+    right: u8,
+    parent: &[u8; 64],
+    count: usize,
+    sets: &[u64; 512],
+    first: &[u16; 256],
+    next: &[u16; 512],
+) -> Place
+    requires { ⌜ (count ≤ 512) × Forward count (now next) ⌝ }
+    ensures { λ r. ⌜ r ≡ breakAlong (rule kind left right) (now (sets .entry)) (now (next .entry)) count count
+        (firstOn (now (first .entry)) (contextOf (parentAt (now (parent .entry))) left right)) ⌝ }
+{
+    let c = wide(context(parent, left, right));
+    broken_part(kind, left, right, wide16(first[c]), count, sets, next)
+}
+
+// The least broken rule and the least part that breaks it.
+fn broken_rule(
+    kind: &[u8; 256],
+    left: &[u8; 256],
+    right: &[u8; 256],
+    many: usize,
+    parent: &[u8; 64],
+    count: usize,
+    sets: &[u64; 512],
+    first: &[u16; 256],
+    next: &[u16; 512],
+) -> Break
+    requires { ⌜ (many ≤ 256) × (count ≤ 512) × Forward count (now next) ⌝ }
+    ensures { λ r. ⌜ r ≡ brokenAlong (parentAt (now (parent .entry))) count (now (sets .entry)) (now (first .entry)) (now (next .entry)) 0
+        (rulesFrom (now (kind .entry)) (now (left .entry)) (now (right .entry)) 0 many) ⌝ }
+{
+    let mut r = 0usize;
+    while r < many {
+        match rule_broken(kind[r], left[r], right[r], parent, count, sets, first, next) {
+            Place::At(n) => {
+                return Break::Broken(r, n);
+            }
+            Place::Nowhere => {
+                r += 1;
+            }
+        }
+    }
+    Break::Unbroken
+}
+
+// The verdict where no rule is broken, on a document that holds the paths of `set`.
+fn missing(required: u64, set: u64) -> Checked
+    ensures { λ r. ⌜ r ≡ orMissing required set ⌝ }
+{
+    let rest = difference(required, set);
+    if rest == 0 {
+        return Checked::Obeys;
+    }
+    Checked::Missing(lowest(rest))
+}
+
+// The verdict on a document that holds the paths of `set`.
+fn verdict(required: u64, set: u64, found: Break) -> Checked
+    ensures { λ r. ⌜ r ≡ verdict required set found ⌝ }
+{
+    match found {
+        Break::Broken(r, n) => Checked::Broken(r, n),
+        Break::Unbroken => missing(required, set),
+    }
+}
+
+// The verdict on the parts that were read.
+fn judge(
+    rules: Rules,
+    parent: &[u8; 64],
+    s: &[u8],
+    count: usize,
+    path: &[u8; 512],
+    place: &[usize; 512],
+) -> Checked
+    requires { ⌜ (rules .rules ≤ 256) × (1 ≤ count) × (count ≤ 512) × Laid (now s) (now path) (now place) count ⌝ }
+    ensures { λ r. ⌜ r ≡ verdict (rules .required) (getD (held (entriesFrom (now (s .entry)) (now (path .entry)) (now (place .entry)) 0 count)) 0 0)
+        (brokenFrom (parentAt (now (parent .entry))) 0 (rulesOf rules .rules) (entriesFrom (now (s .entry)) (now (path .entry)) (now (place .entry)) 0 count)
+        (held (entriesFrom (now (s .entry)) (now (path .entry)) (now (place .entry)) 0 count))) ⌝ }
+{
+    let mut sets = [0u64; 512];
+    let mut first = [512u16; 256];
+    let mut next = [512u16; 512];
+    hold_all(s, count, path, place, &mut sets, &mut first, &mut next);
+    let kind = rules.kind;
+    let left = rules.left;
+    let right = rules.right;
+    let found = broken_rule(&kind, &left, &right, rules.rules, parent, count, &sets, &first, &next);
+    verdict(rules.required, sets[0], found)
+}
+
+// The verdict on a document, by a table that is valid.
+fn check_parts(rules: Rules, document: &[u8]) -> Checked
+    requires { ⌜ (1 ≤ rules .paths) × (rules .paths ≤ 64) × (rules .rules ≤ 256) ⌝ }
+    ensures { λ r. ⌜ r ≡ judged (parentIn (rulesOf rules .paths)) (rulesOf rules .rules) (rules .required)
+        (runAll (documentFile (parentIn (rulesOf rules .paths)) (rules .paths)) (now (document .entry))) ⌝ }
+{
+    let given = rules.parent;
+    let parent = parents(&given, rules.paths);
+    let mut path = [0u8; 512];
+    let mut place = [0usize; 512];
+    match read_document(document, &parent, (rules.paths % 256) as u32, &mut path, &mut place) {
+        Listed::Refused(why, at) => Checked::Refused(why, at),
+        Listed::Parts(count) => judge(rules, &parent, document, count, &path, &place),
+    }
+}
+
+// Whether a document obeys the rules and holds the required paths.
+pub fn check_document(rules: Rules, document: &[u8]) -> Checked
+    ensures { λ r. ⌜ CheckDocument rules (now (document .entry)) r ⌝ }
+{
+    if !valid_table(rules) {
+        return Checked::Refused(12, 0);
+    }
+    if 65536 < document.len() {
+        return Checked::Refused(14, 0);
+    }
+    check_parts(rules, document)
 }

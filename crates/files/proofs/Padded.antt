@@ -7,7 +7,7 @@ use lib.ListN.{length, getD, set, replicate, length-append, length-replicate}
 use lib.Seq.{append-snoc, set-append-seam}
 use Rattle.files.specs.Rules.{padded}
 
-zeros-get : (k x : ℕ) → _≡_ {A = ℕ} (getD (replicate k 0) x 0) 0
+pub zeros-get : (k x : ℕ) → _≡_ {A = ℕ} (getD (replicate k 0) x 0) 0
 zeros-get zero x = refl
 zeros-get (suc k) zero = refl
 zeros-get (suc k) (suc x) = zeros-get k x

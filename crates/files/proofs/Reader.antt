@@ -35,21 +35,41 @@ pub between-in : (low past k n : ℕ) → low ≤ n → n < past → between low
 unfolding between
 between-in low past k n h l = rw (le-leb low n h, lt-ltb n past l)
 
+-- the test in the words of the code
+pub test-low : (low past k n : ℕ) → n < low → k ≡ between low past k n
+test-low low past k n h = sym (between-low low past k n h)
+
+pub test-past : (low past k n : ℕ) → low ≤ n → past ≤ n → k ≡ between low past k n
+test-past low past k n h l = sym (between-past low past k n h l)
+
+pub test-in : (low past k n : ℕ) → low ≤ n → n < past → 0 ≡ between low past k n
+test-in low past k n h l = sym (between-in low past k n h l)
+
+pub ruleset between-laws = (test-low, test-past, test-in)
+
+pub passed-own : (n size k : ℕ) → 0 < k → Refused k ≡ passed n size k
+unfolding passed
+passed-own n size zero h = absurd (omega arith)
+passed-own n size (suc k) h = refl
+
+pub passed-good : (n size k : ℕ) → k ≤ 0 → Is n size ≡ passed n size k
+unfolding passed
+passed-good n size zero h = refl
+passed-good n size (suc k) h = absurd (omega arith)
+
+pub ruleset passed-laws = (passed-own, passed-good)
+
+-- a number that was read, with its test
 module _ (test : ℕ → ℕ) (r : Number) (t : List ℕ) (e : r ≡ numberIn t) where
   pub tested-bad : {k : ℕ} → r ≡ Refused k → Refused k ≡ tested test (numberIn t)
   unfolding tested
   tested-bad f = rw (← e, f)
 
-  pub tested-own : {n size k : ℕ} → r ≡ Is n size → 0 < k → test n ≡ k → Refused k ≡ tested test (numberIn t)
-  unfolding tested passed
-  tested-own {k = zero} f h g = absurd (omega arith)
-  tested-own {k = suc k} f h g = rw (← e, f, g)
+  pub tested-on : {n size : ℕ} (w : ℕ) (q : Number) → r ≡ Is n size → w ≡ test n → q ≡ passed n size w → q ≡ tested test (numberIn t)
+  unfolding tested
+  tested-on w q f g h = rw (← e, f, ← g) h
 
-  pub tested-is : {n size : ℕ} → r ≡ Is n size → test n ≡ 0 → Is n size ≡ tested test (numberIn t)
-  unfolding tested passed
-  tested-is f g = rw (← e, f, g)
-
-pub ruleset between-laws = (between-low, between-past, between-in, tested-bad, tested-own, tested-is)
+pub ruleset tested-laws = (tested-bad, tested-on)
 
 pub same-parent : (parent label p l : ℕ) → parent ≡ p → eqb label l ≡ sameChild parent label p l
 unfolding sameChild

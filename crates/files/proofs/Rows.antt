@@ -35,7 +35,7 @@ between-passes low past k n some = (by (decLt n low) (decLt n past), λ h. betwe
     by (no h) (no l) e = absurd (omega (arith, between-past low past k n (omega arith) (omega arith)))
 
 -- the row of a number that has to stand from `low` up to and without `past`, its condition said in other words
-row-between : (low past k n : ℕ) (condition : Type 0) → 0 < k → (n < low → condition) → (past ≤ n → condition)
+pub row-between : (low past k n : ℕ) (condition : Type 0) → 0 < k → (n < low → condition) → (past ≤ n → condition)
     → (low ≤ n → n < past → ¬ condition)
     → Row k (between low past k n) condition
 row-between low past k n condition some under over inside = row-of k (between low past k n) condition some (by (decLt n low) (decLt n past))

@@ -33,7 +33,7 @@ paths-none : (w i : ℕ) → w ≡ 0 → ¬ Has w i
 paths-none w i e h = not-has (bit-of-zero i) (subst (λ (v : ℕ). Has v i) e h)
 
 -- ascending numbers are at least the first bound
-ascending-from : {low : ℕ} {l : List ℕ} → Ascending low l → (x : ℕ) → List·Memᴰ x l → low ≤ x
+pub ascending-from : {low : ℕ} {l : List ℕ} → Ascending low l → (x : ℕ) → List·Memᴰ x l → low ≤ x
 ascending-from none x m = absurd (List·Memᴰ·not-nil m)
 ascending-from (next {x = y} h a) x m =
     ⊎-elim (λ (e : x ≡ y). omega arith) (λ r. omega (arith, ascending-from a x r)) (List·Memᴰ·cases-cons m)

@@ -17,13 +17,13 @@ pub(crate) fn wide32(b: u8) -> u32
     b as u32
 }
 
-pub(crate) fn wide(b: u8) -> usize
+pub fn wide(b: u8) -> usize
     ensures { λ r. ⌜ (r ≡ b) × (r < 256) ⌝ }
 {
     b as usize
 }
 
-pub(crate) fn wide_number(n: u32) -> usize
+pub fn wide_number(n: u32) -> usize
     ensures { λ r. ⌜ r ≡ n ⌝ }
 {
     n as usize

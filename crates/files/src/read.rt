@@ -8,7 +8,8 @@ ghost use Rattle.files.specs.Format.{run, atEnd, got, refused};
 ghost use Rattle.files.specs.Table.{Path, RuleSet};
 ghost use Rattle.files.specs.RuleFile.{between, sameChild, repeats, parentTest, pathLabel, onePath, morePaths, depths, moreRequired, ruleRight, ruleLeft, oneRule, moreRules, rulesToEnd, afterRequired, requiredOn, afterPaths, afterRoot, afterCount};
 ghost use Rattle.files.specs.Rules.{pathsFrom, padded, addAll, tableOf};
-ghost use Rattle.files.specs.Reading.{tested, pathAnswer, pathsAnswer, requiredAnswer, ruleAnswer, ruleListAnswer, PathsIn, readingOf, ReadRules};
+ghost use Rattle.files.specs.Reading.{passed, tested, pathAnswer, pathsAnswer, requiredAnswer, ruleAnswer, ruleListAnswer, PathsIn, readingOf, ReadRules};
+
 use crate::number::Number;
 use crate::number::read_number;
 use crate::number::wide;
@@ -68,22 +69,36 @@ pub struct Reading {
     pub rules: Rules,
 }
 
+// The test of a number that stands from `low` up to and without `past`: 0, or the refusal.
+fn between(low: u32, past: u32, refusal: u8, n: u32) -> u8
+    ensures { λ r. ⌜ r ≡ between low past refusal n ⌝ }
+{
+    if n < low {
+        return refusal;
+    }
+    if n < past {
+        return 0;
+    }
+    refusal
+}
+
+// A number of which the test says `why`: the number where that is 0, else the refusal.
+pub fn passed(n: u32, size: usize, why: u8) -> Number
+    ensures { λ r. ⌜ r ≡ passed n size why ⌝ }
+{
+    if 0 < why {
+        return Number::Refused(why);
+    }
+    Number::Is(n, size)
+}
+
 // A number that stands from `low` up to and without `past`, or its refusal.
-fn read_between(s: &[u8], at: usize, low: u32, past: u32, refusal: u8) -> Number
-    requires { ⌜ 0 < refusal ⌝ }
+pub fn read_between(s: &[u8], at: usize, low: u32, past: u32, refusal: u8) -> Number
     ensures { λ r. ⌜ r ≡ tested (between low past refusal) (numberIn (drop at (now (s .entry)))) ⌝ }
 {
     match read_number(s, at) {
         Number::Refused(why) => Number::Refused(why),
-        Number::Is(n, size) => {
-            if n < low {
-                return Number::Refused(refusal);
-            }
-            if n < past {
-                return Number::Is(n, size);
-            }
-            Number::Refused(refusal)
-        }
+        Number::Is(n, size) => passed(n, size, between(low, past, refusal, n)),
     }
 }
 

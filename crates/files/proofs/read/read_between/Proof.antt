@@ -1,38 +1,33 @@
 use borrow.Author.Needs.{needs}
-use Rattle.files.proofs.Reader.{between-laws}
 use Rattle.files.proofs.read.read_between.Statement.{statement}
 use Rattle.files.proofs.read.read_between.Tie as tie
 use Rattle.files.proofs.read.read_between.Reads as reads
 use Rattle.files.proofs.read.read_between.Lts as lts
 use Rattle.files.proofs.number.read_number.Reads as read-number-reads
+use Rattle.files.proofs.read.between.Reads as between-reads
+use Rattle.files.proofs.read.passed.Reads as passed-reads
+use Rattle.files.proofs.Reader.{tested-laws}
 
--- src/read.rt:20:11
 read-number-requires : tie.Need-read-number-requires
 read-number-requires c κs = search needs
 
--- src/read.rt:21:25
 enum-known-why : tie.Need-enum-known-why
 enum-known-why c = search needs
 
--- src/read.rt:22:20
 enum-known-n : tie.Need-enum-known-n
 enum-known-n c = search needs
 
--- src/read.rt:24:17
+between-requires : tie.Need-between-requires
+between-requires c κs = search needs
+
+passed-requires : tie.Need-passed-requires
+passed-requires c κs = search needs
+
 returns : tie.Need-returns
-returns c = search (needs, between-laws)
+returns c = search (needs, tested-laws)
 
--- src/read.rt:27:17
 returns-2 : tie.Need-returns-2
-returns-2 c = search (needs, between-laws)
-
--- src/read.rt:16:1
-returns-3 : tie.Need-returns-3
-returns-3 c = search (needs, between-laws)
-
--- src/read.rt:16:1
-returns-4 : tie.Need-returns-4
-returns-4 c = search (needs, between-laws)
+returns-2 c = search (needs, tested-laws)
 
 pub read-between-spec : {M : Type 1} → statement M
 read-between-spec =
@@ -41,7 +36,7 @@ read-between-spec =
     read-number-requires
     enum-known-why
     enum-known-n
+    between-requires
+    passed-requires
     returns
-    returns-2
-    returns-3
-    returns-4)
+    returns-2)

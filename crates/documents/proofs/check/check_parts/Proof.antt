@@ -1,0 +1,53 @@
+use Prim.Native.Nat.{ℕ, _<_}
+use native.Mathlib.Omega.{arith}
+use lib.ListN.{getD}
+use denote.Ref.{now}
+use borrow.Author.Needs.{needs}
+use Rattle.documents.proofs.check.check_parts.Statement.{statement}
+use Rattle.documents.proofs.check.check_parts.Tie as tie
+use Rattle.documents.proofs.check.check_parts.Reads as reads
+use Rattle.documents.proofs.check.check_parts.Lts as lts
+use Rattle.documents.proofs.check.judge.Reads as judge-reads
+use Rattle.documents.proofs.context.parents.Reads as parents-reads
+use Rattle.documents.proofs.document.read_document.Reads as read-document-reads
+use Rattle.documents.proofs.Checks.{parts-laws}
+
+parents-requires : tie.Need-parents-requires
+parents-requires c κs = search needs
+
+cast-read-document : tie.Need-cast-read-document
+cast-read-document c = search needs
+
+read-document-requires : tie.Need-read-document-requires
+read-document-requires c κs = search needs
+
+enum-known-why : tie.Need-enum-known-why
+enum-known-why c = search needs
+
+enum-known-count : tie.Need-enum-known-count
+enum-known-count c = search needs
+
+judge-requires : tie.Need-judge-requires
+judge-requires c κs =
+    let bytes : (i : ℕ) → getD (now (c .before .before .before .before .before .before .before .before .before .before .before .before .before .before .before .args .document)) i 0 < 256 =
+    λ i. omega (arith, c .before .before .before .before .before .before .before .before .before .before .before .before .before .before .shared-slice-known .given i) in
+    search (needs, parts-laws)
+
+returns : tie.Need-returns
+returns c = search (needs, parts-laws)
+
+returns-2 : tie.Need-returns-2
+returns-2 c = search (needs, parts-laws)
+
+pub check-parts-spec : {M : Type 1} → statement M
+check-parts-spec =
+    tie.close
+    (tie.spec
+    parents-requires
+    cast-read-document
+    read-document-requires
+    enum-known-why
+    enum-known-count
+    judge-requires
+    returns
+    returns-2)

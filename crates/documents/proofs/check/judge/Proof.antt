@@ -1,0 +1,29 @@
+use borrow.Author.Needs.{needs}
+use Rattle.documents.proofs.check.judge.Statement.{statement}
+use Rattle.documents.proofs.check.judge.Tie as tie
+use Rattle.documents.proofs.check.judge.Reads as reads
+use Rattle.documents.proofs.check.judge.Lts as lts
+use Rattle.documents.proofs.check.broken_rule.Reads as broken-rule-reads
+use Rattle.documents.proofs.check.verdict.Reads as verdict-reads
+use Rattle.documents.proofs.held.hold_all.Reads as hold-all-reads
+use Rattle.documents.proofs.Judging.{judge-laws}
+
+hold-all-requires : tie.Need-hold-all-requires
+hold-all-requires c κs = search needs
+
+broken-rule-requires : tie.Need-broken-rule-requires
+broken-rule-requires c κs = search (needs, judge-laws)
+
+array-read-verdict : tie.Need-array-read-verdict
+array-read-verdict c = search needs
+
+verdict-requires : tie.Need-verdict-requires
+verdict-requires c κs = search needs
+
+returns : tie.Need-returns
+returns c = search (needs, judge-laws)
+
+pub judge-spec : {M : Type 1} → statement M
+judge-spec =
+    tie.close
+    (tie.spec hold-all-requires broken-rule-requires array-read-verdict verdict-requires returns)

@@ -1,0 +1,81 @@
+// From the last part to the first: the set of paths that each part holds, and the parts on each path in ascending order.
+ghost use Prim.Native.Nat.{ℕ, _+_, _≤_, _<_};
+ghost use mathlib.Core.Path.{_≡_};
+ghost use mathlib.Core.List.{List, [], _∷_};
+ghost use lib.ListN.{length, getD, replicate};
+ghost use Rattle.documents.specs.Reading.{kidsFrom, kidsAt};
+ghost use Rattle.documents.specs.Held.{setAt, heldAmong, Laid, Linked};
+
+use files::number::Number;
+use files::number::read_number;
+use files::number::wide;
+use files::number::wide_number;
+use files::sets::union;
+use files::sets::with;
+
+// The set of part k; none past the 512 parts.
+fn set_of(sets: &[u64; 512], k: usize) -> u64
+    ensures { λ r. ⌜ r ≡ setAt (now (sets .entry)) k ⌝ }
+{
+    if k < 512 {
+        return sets[k];
+    }
+    0
+}
+
+// All that the parts hold whose numbers, so many, stand at `at`.
+fn kids_hold(s: &[u8], at: usize, many: u32, sets: &[u64; 512]) -> u64
+    ensures { λ r. ⌜ r ≡ heldAmong (now (sets .entry)) (kidsFrom (now (s .entry)) at many) ⌝ }
+{
+    let mut set = 0u64;
+    let mut next = at;
+    let mut left = many;
+    while 0 < left {
+        match read_number(s, next) {
+            Number::Refused(_) => {
+                return set;
+            }
+            Number::Is(k, width) => {
+                set = union(set, set_of(sets, wide_number(k)));
+                next += width;
+                left -= 1;
+            }
+        }
+    }
+    set
+}
+
+// All that the children hold whose count stands at `at`.
+fn children_hold(s: &[u8], at: usize, sets: &[u64; 512]) -> u64
+    ensures { λ r. ⌜ r ≡ heldAmong (now (sets .entry)) (kidsAt (now (s .entry)) at) ⌝ }
+{
+    match read_number(s, at) {
+        Number::Refused(_) => 0,
+        Number::Is(many, width) => kids_hold(s, at + width, many, sets),
+    }
+}
+
+// The sets of `count` parts, the least part on each path, and for each part the next on its path; 512 where there is none.
+pub(crate) fn hold_all(
+    s: &[u8],
+    count: usize,
+    path: &[u8; 512],
+    place: &[usize; 512],
+    sets: &mut [u64; 512],
+    first: &mut [u16; 256],
+    next: &mut [u16; 512],
+)
+    requires { ⌜ (count ≤ 512) × Laid (now s) (now path) (now place) count 
+        × (length (now sets) ≡ 512) × (now first ≡ replicate 256 512) × (length (now next) ≡ 512) ⌝ }
+    ensures { λ _. ⌜ Linked (now (s .entry)) (now (path .entry)) (now (place .entry)) count 0 (now (sets .exit)) (now (first .exit)) (now (next .exit)) ⌝ }
+{
+    let mut n = count;
+    while 0 < n {
+        n -= 1;
+        let p = wide(path[n]);
+        let set = children_hold(s, place[n], sets);
+        sets[n] = with(set, p);
+        next[n] = first[p];
+        first[p] = (n % 512) as u16;
+    }
+}
