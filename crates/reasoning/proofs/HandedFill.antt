@@ -39,7 +39,7 @@ use Rattle.reasoning.specs.Handed.{ReachWords, wordReach, highest, reach
 use Rattle.reasoning.proofs.Walks.{reach-refl, reach-end}
 use Rattle.reasoning.proofs.Fill.{Some, someb-some, some-someb}
 use Rattle.reasoning.proofs.Kids.{Goals, any-small}
-use Rattle.reasoning.proofs.HandedWords.{has-none, top-absent, members-under, highest-is, gather-small, gather-iff, Given}
+use Rattle.reasoning.proofs.HandedWords.{has-none, has-positive, top-absent, members-under, highest-is, gather-small, gather-iff, Given}
 use Rattle.reasoning.proofs.HandedKids.{
   GoalWord,
   KidBy,
@@ -161,21 +161,31 @@ module _ (parent : ℕ → ℕ) (count : ℕ) (R : ℕ → ℕ → ℕ) where
       fill-small c 64 (difference (withoutPath (reachAll parent count R c w) c) (coverEach parent count R c (withoutPath w c)))
       (withoutPath w c) (without-lt w c l)
 
-  fill-empty : (c fuel chosen : ℕ) → fillWord parent count R c fuel 0 chosen ≡ chosen
+  -- nothing is left uncovered
+  pub fill-end : (c fuel chosen : ℕ) → fillWord parent count R c fuel 0 chosen ≡ chosen
   unfolding fillWord
-  fill-empty c zero chosen = refl
-  fill-empty c (suc fuel) chosen = refl
+  fill-end c zero chosen = refl
+  fill-end c (suc fuel) chosen = refl
 
-  fill-step : (c fuel left chosen x : ℕ) → highest left ≡ x → Has left x
+  -- the highest path that is left gets a child
+  pub fill-more : (c fuel left chosen : ℕ) → 0 < left
       → fillWord parent count R c (suc fuel) left chosen
-      ≡ fillWord parent count R c fuel (difference left (R (towards parent c x) x)) (withPath chosen x)
+      ≡ fillWord parent count R c fuel (difference left (R (towards parent c (highest left)) (highest left))) (withPath chosen (highest left))
   unfolding fillWord
-  fill-step c fuel left chosen x e h = pick (eqb left 0) refl
+  fill-more c fuel left chosen p = pick (eqb left 0) refl
     where
-      pick : (b : Bool) → eqb left 0 ≡ b → fillWord parent count R c (suc fuel) left chosen
-          ≡ fillWord parent count R c fuel (difference left (R (towards parent c x) x)) (withPath chosen x)
-      pick true f = absurd (has-none (subst (λ (z : ℕ). Has z x) (eqb-true left 0 f) h))
-      pick false f = rw (f, fillWord, e)
+      pick : (b : Bool) → eqb left 0 ≡ b
+          → fillWord parent count R c (suc fuel) left chosen
+          ≡ fillWord parent count R c fuel (difference left (R (towards parent c (highest left)) (highest left))) (withPath chosen (highest left))
+      pick true e = absurd (omega (arith, eqb-true left 0 e))
+      pick false e = rw (fillWord, e)
+
+  -- what is left once x has a child that covers it
+  pub uncovered : (c left x : ℕ) → left < 2 ^ suc x → Has (R (towards parent c x) x) x → difference left (R (towards parent c x) x) < 2 ^ x
+  uncovered c left x l m =
+      let d = difference left (R (towards parent c x) x) in
+      top-absent d x (omega (arith, difference-le left (R (towards parent c x) x)))
+      (bit-absent d x (λ q. not-has (has-difference left (R (towards parent c x) x) x .0 q .1) m))
 
   module _ (few : count ≤ 64) {handed : Bool} (part : Part)
       (itself : (x : ℕ) → x < count → (part .path ≡ x → ⊥) → T (coversb (wordReach R) part x)
@@ -189,7 +199,7 @@ module _ (parent : ℕ → ℕ) (count : ℕ) (R : ℕ → ℕ → ℕ) where
     unfolding fill
     fill-words zero fuel left own chosen f s l inv is k =
         let e : left ≡ 0 = omega arith in
-        rw (e, fill-empty (part .path) fuel own) (is k)
+        rw (e, fill-end (part .path) fuel own) (is k)
     fill-words (suc x) zero left own chosen f s l inv is k = absurd (omega arith)
     fill-words (suc x) (suc fuel) left own chosen f s l inv is k =
         pick (lacksb (wordReach R) part chosen x) refl
@@ -262,11 +272,8 @@ module _ (parent : ℕ → ℕ) (count : ℕ) (R : ℕ → ℕ → ℕ) where
             let t : T (lacksb (wordReach R) part chosen x) = rw e tt in
             let h : Has left x = inv x (omega arith) .0 t in
             let p = lacks-iff (wordReach R) part chosen x .0 t in
-            let m : Has (R (towards parent (part .path) x) x) x = itself x (omega arith) (p .0) (p .1) in
-            let d = difference left (R (towards parent (part .path) x) x) in
-            let gone : bit d x ≡ 0 = bit-absent d x (λ q. not-has (has-difference left (R (towards parent (part .path) x) x) x .0 q .1) m) in
-            let u : d < 2 ^ x = top-absent d x (omega (arith, difference-le left (R (towards parent (part .path) x) x))) gone in
-            rw (fill-step (part .path) fuel left own x (highest-is left x (omega arith) l h) h)
+            let u = uncovered (part .path) left x l (itself x (omega arith) (p .0) (p .1)) in
+            rw (fill-more (part .path) fuel left own (has-positive left x h), highest-is left x (omega arith) l h)
             (rw (e, fill) (add u after more))
         pick false e add skip =
             let gone : bit left x ≡ 0 = bit-absent left x (λ q. rw e at (inv x (omega arith) .1 q)) in
@@ -301,6 +308,12 @@ module _ {parent : ℕ → ℕ} {rules : List Rule} {count : ℕ} {R : ℕ → �
         let r = reached-any x (covers-word parent R word count c x .0 t) in
         let b = towards-below desc (record { below = reach-end (r .reach); other = n }) in
         words .exactly (towards parent c x) x x b l .1 (reach-refl b)
+
+    -- a path that the part reaches, other than its own, is covered by the child that it would get
+    pub reached-itself : (x : ℕ) → Has (withoutPath (reachAll parent count R c w) c) x → Has (R (towards parent c x) x) x
+    reached-itself x h =
+        let r = has-without (reachAll parent count R c w) c x .0 h in
+        itself x (any-small desc within v (reached-any x (r .1))) (λ e. r .0 (sym e)) (covers-word parent R word count c x .1 (r .1))
 
     -- what the part reaches and its own children do not cover
     module _ {top : ℕ} {handed : Bool} (mode : Mode parent c goals top handed) where

@@ -22,6 +22,14 @@ use Rattle.reasoning.specs.Handed.{highest, gather, climbAll}
 pub has-none : {i : ℕ} → Has 0 i → ⊥
 has-none {i} h = not-has (bit-of-zero i) h
 
+-- a set that has a path is not empty
+pub has-positive : (w x : ℕ) → Has w x → 0 < w
+has-positive w x h = pick (ℕ-discrete w 0)
+  where
+    pick : Dec (w ≡ 0) → 0 < w
+    pick (yes e) = absurd (has-none (subst (λ (z : ℕ). Has z x) e h))
+    pick (no n) = omega arith
+
 -- a word of x + 1 digits without path x has x digits
 pub top-absent : (w x : ℕ) → w < 2 ^ suc x → bit w x ≡ 0 → w < 2 ^ x
 unfolding bit
