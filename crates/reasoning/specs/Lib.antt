@@ -1,4 +1,5 @@
 pub mod Arrays
+pub mod Calls
 pub mod Decide
 pub mod Evidence
 pub mod Follows
