@@ -20,6 +20,7 @@ pub mod HandedLoops
 pub mod HandedNamed
 pub mod HandedOrder
 pub mod HandedParts
+pub mod HandedQuestions
 pub mod HandedRows
 pub mod HandedTree
 pub mod HandedWords
