@@ -34,12 +34,34 @@ use Rattle.files.proofs.SetBits.{
 use Rattle.files.proofs.SetMembers.{size-le}
 use Rattle.documents.specs.Paths.{Descending, towards}
 use Rattle.documents.proofs.Paths.{towards-below}
-use Rattle.reasoning.specs.Parts.{Part, ReachAny, RulesIn, someb, meetAll, childFor, childForAll, ownKids, coversb, lacksb, fill, kidsOf}
+use Rattle.reasoning.specs.Parts.{
+  Part,
+  ReachAny,
+  RulesIn,
+  someb,
+  meetAll,
+  childFor,
+  childForAll,
+  ownKids,
+  coversb,
+  lacksb,
+  fill,
+  kidsOf,
+}
 use Rattle.reasoning.specs.Handed.{ReachWords, wordReach, highest, reachAll, coverEach, fillWord, kidWord}
 use Rattle.reasoning.proofs.Walks.{reach-refl, reach-end}
 use Rattle.reasoning.proofs.Fill.{Some, someb-some, some-someb}
 use Rattle.reasoning.proofs.Kids.{Goals, any-small}
-use Rattle.reasoning.proofs.HandedWords.{has-none, has-positive, top-absent, members-under, highest-is, gather-small, gather-iff, Given}
+use Rattle.reasoning.proofs.HandedWords.{
+  has-none,
+  has-positive,
+  top-absent,
+  members-under,
+  highest-is,
+  gather-small,
+  gather-iff,
+  Given,
+}
 use Rattle.reasoning.proofs.HandedKids.{
   GoalWord,
   KidBy,
@@ -94,8 +116,8 @@ module _ (parent : ℕ → ℕ) (count : ℕ) (R : ℕ → ℕ → ℕ) where
         → T (someb (λ k. coversb (wordReach R) k x) (ownKids parent c goals)) ↔ Has (coverEach parent count R c (withoutPath w c)) x
     unfolding coverEach
     each-covers own x =
-        let r = gather-iff (λ g. R (towards parent c g) g) 64 (withoutPath w c) 0 x (without-lt w c (word .small)) (size-le (withoutPath w c)) in
-        (
+        let r = gather-iff (λ g. R (towards parent c g) g) 64 (withoutPath w c) 0 x (without-lt w c (word .small))
+            (size-le (withoutPath w c)) in (
           λ s.
               let m = someb-some (λ k. coversb (wordReach R) k x) (ownKids parent c goals) s in
               r .1 (inr (out (own (m .member) .0 (m .listed)) (m .passes))),
@@ -122,7 +144,8 @@ module _ (parent : ℕ → ℕ) (count : ℕ) (R : ℕ → ℕ → ℕ) where
           let m = someb-some (λ k. coversb (wordReach R) k x) (ownKids parent c goals) s in
           out (own-kids word {top = top} (onWay n t) (m .member) .0 (m .listed)) (m .passes),
       λ h.
-          some-someb (λ k. coversb (wordReach R) k x) (childForAll parent c goals) (own-kids word {top = top} (onWay n t) _ .1 (all refl refl))
+          some-someb (λ k. coversb (wordReach R) k x) (childForAll parent c goals)
+              (own-kids word {top = top} (onWay n t) _ .1 (all refl refl))
           (covers-word parent R word count (towards parent c (meetAll parent goals)) x .1
           (subst (λ (z : ℕ). Has (reachAll parent count R (towards parent c z) w) x) t h)),
     )
@@ -156,7 +179,8 @@ module _ (parent : ℕ → ℕ) (count : ℕ) (R : ℕ → ℕ → ℕ) where
   pub kid-word-small : (c w top : ℕ) (handed : Bool) → w < 2 ^ 64 → kidWord parent count R c w top handed < 2 ^ 64
   unfolding kidWord
   kid-word-small c w top true l =
-      fill-small c 64 (difference (withoutPath (reachAll parent count R c w) c) (reachAll parent count R (towards parent c top) w)) 0 (lit< tt)
+      fill-small c 64 (difference (withoutPath (reachAll parent count R c w) c) (reachAll parent count R (towards parent c top) w)) 0
+          (lit< tt)
   kid-word-small c w top false l =
       fill-small c 64 (difference (withoutPath (reachAll parent count R c w) c) (coverEach parent count R c (withoutPath w c)))
       (withoutPath w c) (without-lt w c l)
@@ -176,7 +200,8 @@ module _ (parent : ℕ → ℕ) (count : ℕ) (R : ℕ → ℕ → ℕ) where
     where
       pick : (b : Bool) → eqb left 0 ≡ b
           → fillWord parent count R c (suc fuel) left chosen
-          ≡ fillWord parent count R c fuel (difference left (R (towards parent c (highest left)) (highest left))) (withPath chosen (highest left))
+          ≡ fillWord parent count R c fuel (difference left (R (towards parent c (highest left)) (highest left)))
+              (withPath chosen (highest left))
       pick true e = absurd (omega (arith, eqb-true left 0 e))
       pick false e = rw (fillWord, e)
 
@@ -203,7 +228,8 @@ module _ (parent : ℕ → ℕ) (count : ℕ) (R : ℕ → ℕ → ℕ) where
     fill-words (suc x) zero left own chosen f s l inv is k = absurd (omega arith)
     fill-words (suc x) (suc fuel) left own chosen f s l inv is k =
         pick (lacksb (wordReach R) part chosen x) refl
-        (λ h i j. fill-words x fuel (difference left (R (towards parent (part .path) x) x)) (withPath own x) (chosen ++ (childFor parent (part .path) x ∷ []))
+        (λ h i j. fill-words x fuel (difference left (R (towards parent (part .path) x) x)) (withPath own x)
+            (chosen ++ (childFor parent (part .path) x ∷ []))
         (omega arith) (omega arith) h i j k)
         (λ h i. fill-words x (suc fuel) left own chosen (omega arith) (omega arith) h i is k)
       where
@@ -211,7 +237,8 @@ module _ (parent : ℕ → ℕ) (count : ℕ) (R : ℕ → ℕ → ℕ) where
         cov j y = coversb (wordReach R) j y
 
         after : (y : ℕ) → y < x
-            → T (lacksb (wordReach R) part (chosen ++ (childFor parent (part .path) x ∷ [])) y) ↔ Has (difference left (R (towards parent (part .path) x) x)) y
+            → T (lacksb (wordReach R) part (chosen ++ (childFor parent (part .path) x ∷ [])) y)
+                ↔ Has (difference left (R (towards parent (part .path) x) x)) y
         after y h = (into, out)
           where
             r : ℕ
@@ -230,39 +257,47 @@ module _ (parent : ℕ → ℕ) (count : ℕ) (R : ℕ → ℕ → ℕ) where
             out m =
                 let d = has-difference left r y .0 m in
                 let p = lacks-iff (wordReach R) part chosen y .0 (inv y (omega arith) .1 (d .0)) in
-                lacks-iff (wordReach R) part (chosen ++ (childFor parent (part .path) x ∷ [])) y .1 (p .0, p .1, λ u. never p (snoc-iff (λ j. cov j y) chosen (childFor parent (part .path) x) .0 u))
+                lacks-iff (wordReach R) part (chosen ++ (childFor parent (part .path) x ∷ [])) y .1
+                    (p .0, p .1, λ u. never p (snoc-iff (λ j. cov j y) chosen (childFor parent (part .path) x) .0 u))
               where
                 never : (part .path ≡ y → ⊥) × T (cov part y) × (T (someb (λ j. cov j y) chosen) → ⊥)
                     → T (someb (λ j. cov j y) chosen) ⊎ T (cov (childFor parent (part .path) x) y) → ⊥
                 never p (inl u) = p .2 u
                 never p (inr u) = not-has (has-difference left r y .0 m .1) (covers-one parent R (part .path) x y .0 u)
 
-        more : (j : Part) → List·Memᴰ j (chosen ++ (childFor parent (part .path) x ∷ [])) ↔ KidBy parent (part .path) (part .goals) handed (withPath own x) j
+        more : (j : Part) → List·Memᴰ j (chosen ++ (childFor parent (part .path) x ∷ []))
+            ↔ KidBy parent (part .path) (part .goals) handed (withPath own x) j
         more j = (λ m. into (List·Memᴰ·append-cases chosen m), out)
           where
             wider : KidBy parent (part .path) (part .goals) handed own j → KidBy parent (part .path) (part .goals) handed (withPath own x) j
             wider (all e p) = all e p
             wider (alone h m p) = alone h (has-with own x h (omega arith) .1 (inr m)) p
 
-            into : List·Memᴰ j chosen ⊎ List·Memᴰ j (childFor parent (part .path) x ∷ []) → KidBy parent (part .path) (part .goals) handed (withPath own x) j
+            into : List·Memᴰ j chosen ⊎ List·Memᴰ j (childFor parent (part .path) x ∷ [])
+                → KidBy parent (part .path) (part .goals) handed (withPath own x) j
             into (inl m) = wider (is j .0 m)
             into (inr m) = alone x (has-with own x x (omega arith) .1 (inl refl)) (List·Memᴰ·eq-of-singleton m)
 
-            place : (h : ℕ) → j ≡ childFor parent (part .path) h → (h ≡ x) ⊎ Has own h → List·Memᴰ j (chosen ++ (childFor parent (part .path) x ∷ []))
+            place : (h : ℕ) → j ≡ childFor parent (part .path) h → (h ≡ x) ⊎ Has own h
+                → List·Memᴰ j (chosen ++ (childFor parent (part .path) x ∷ []))
             place h p (inl e) = Memᴰ·append-right chosen (List·Memᴰ·head (p ∙ ap (childFor parent (part .path)) e))
             place h p (inr m) = Memᴰ·append-left (childFor parent (part .path) x ∷ []) (is j .1 (alone h m p))
 
-            out : KidBy parent (part .path) (part .goals) handed (withPath own x) j → List·Memᴰ j (chosen ++ (childFor parent (part .path) x ∷ []))
+            out : KidBy parent (part .path) (part .goals) handed (withPath own x) j
+                → List·Memᴰ j (chosen ++ (childFor parent (part .path) x ∷ []))
             out (all e p) = Memᴰ·append-left (childFor parent (part .path) x ∷ []) (is j .1 (all e p))
             out (alone h m p) = place h p (has-with own x h (omega arith) .0 m)
 
         pick : (b : Bool) → lacksb (wordReach R) part chosen x ≡ b
             → (difference left (R (towards parent (part .path) x) x) < 2 ^ x
             → ((y : ℕ) → y < x
-            → T (lacksb (wordReach R) part (chosen ++ (childFor parent (part .path) x ∷ [])) y) ↔ Has (difference left (R (towards parent (part .path) x) x)) y)
-            → ((j : Part) → List·Memᴰ j (chosen ++ (childFor parent (part .path) x ∷ [])) ↔ KidBy parent (part .path) (part .goals) handed (withPath own x) j)
+            → T (lacksb (wordReach R) part (chosen ++ (childFor parent (part .path) x ∷ [])) y)
+                ↔ Has (difference left (R (towards parent (part .path) x) x)) y)
+            → ((j : Part) → List·Memᴰ j (chosen ++ (childFor parent (part .path) x ∷ []))
+                ↔ KidBy parent (part .path) (part .goals) handed (withPath own x) j)
             → List·Memᴰ k (fill parent (wordReach R) part x (chosen ++ (childFor parent (part .path) x ∷ [])))
-            ↔ KidBy parent (part .path) (part .goals) handed (fillWord parent count R (part .path) fuel (difference left (R (towards parent (part .path) x) x)) (withPath own x)) k)
+            ↔ KidBy parent (part .path) (part .goals) handed
+                (fillWord parent count R (part .path) fuel (difference left (R (towards parent (part .path) x) x)) (withPath own x)) k)
             → (left < 2 ^ x → ((y : ℕ) → y < x → T (lacksb (wordReach R) part chosen y) ↔ Has left y)
             → List·Memᴰ k (fill parent (wordReach R) part x chosen)
             ↔ KidBy parent (part .path) (part .goals) handed (fillWord parent count R (part .path) (suc fuel) left own) k)
@@ -353,9 +388,9 @@ module _ {parent : ℕ → ℕ} {rules : List Rule} {count : ℕ} {R : ℕ → �
           members-under 64 count _
           (difference-lt _ (ownCovers parent count R c w top handed) (without-lt (reachAll parent count R c w) c reached-small)) few
           (λ i h.
-              any-small desc within v
-              (reached-any i (has-without (reachAll parent count R c w) c i .0
-              (has-difference (withoutPath (reachAll parent count R c w) c) (ownCovers parent count R c w top handed) i .0 h .0) .1)))
+          any-small desc within v
+          (reached-any i (has-without (reachAll parent count R c w) c i .0
+          (has-difference (withoutPath (reachAll parent count R c w) c) (ownCovers parent count R c w top handed) i .0 h .0) .1)))
 
       kids-filled : (k : Part) → List·Memᴰ k (kidsOf parent count (wordReach R) (record { path = c; goals = goals }))
           ↔ KidBy parent c goals handed

@@ -102,7 +102,8 @@ module _ (parent : ℕ → ℕ) (count : ℕ) (R : ℕ → ℕ → ℕ) (c : ℕ
   fill-fuel (suc n) (suc fuel) (suc more) left chosen l s h k own =
       pick (bit-cases left n)
       (λ q. fill-fuel n (suc fuel) (suc more) left chosen q (omega arith) (omega arith) (omega arith) own)
-      (λ q m. fill-fuel n fuel more (difference left (R (towards parent c n) n)) (withPath chosen n) q (omega arith) (omega arith) (omega arith)
+      (λ q m. fill-fuel n fuel more (difference left (R (towards parent c n) n)) (withPath chosen n) q (omega arith) (omega arith)
+          (omega arith)
       (fewer left (R (towards parent c n) n) own))
     where
       pick : Has left n ⊎ (bit left n ≡ 0)
@@ -115,7 +116,8 @@ module _ (parent : ℕ → ℕ) (count : ℕ) (R : ℕ → ℕ → ℕ) (c : ℕ
       pick (inl m) skip step =
           let top : highest left ≡ n = highest-is left n (omega arith) l m in
           let p = has-positive left n m in
-          fill-more parent count R c fuel left chosen p ∙ rw top (step (uncovered parent count R c left n l (own n m)) m) ∙ sym (fill-more parent count R c more left chosen p)
+          fill-more parent count R c fuel left chosen p ∙ rw top (step (uncovered parent count R c left n l (own n m)) m)
+              ∙ sym (fill-more parent count R c more left chosen p)
 
   -- the highest path that is left gets a child, and what that covers goes
   pub fill-next : (left chosen : ℕ) → 0 < left → left < 2 ^ 64 → Itself left
@@ -125,7 +127,8 @@ module _ (parent : ℕ → ℕ) (count : ℕ) (R : ℕ → ℕ → ℕ) (c : ℕ
       let h = highest-law left p l in
       let x = highest left in
       fill-more parent count R c 63 left chosen p
-      ∙ fill-fuel x 63 64 (difference left (R (towards parent c x) x)) (withPath chosen x) (uncovered parent count R c left x (h .above) (own x (h .member)))
+      ∙ fill-fuel x 63 64 (difference left (R (towards parent c x) x)) (withPath chosen x)
+          (uncovered parent count R c left x (h .above) (own x (h .member)))
       (omega (arith, h .inner)) (omega (arith, h .inner)) (omega (arith, h .inner)) (fewer left (R (towards parent c x) x) own)
 
 module _ {parent : ℕ → ℕ} (desc : Descending parent) where

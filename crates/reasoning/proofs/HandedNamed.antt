@@ -102,8 +102,12 @@ module _ {parent : ℕ → ℕ} {count : ℕ} {goals : List ℕ} {start : Start}
   module _ (desc : Descending parent) (few : count ≤ 64) (R : ℕ → ℕ → ℕ) where
     pub top-small : start .top < count
     top-small =
-        omega (arith, begins .top, below-le desc (meet-above desc (begins .goalsIn .listed)),
-        begins .goalsIn .small (begins .goalsIn .some) (begins .goalsIn .listed))
+        omega (
+          arith,
+          begins .top,
+          below-le desc (meet-above desc (begins .goalsIn .listed)),
+          begins .goalsIn .small (begins .goalsIn .some) (begins .goalsIn .listed),
+        )
 
     -- the chain: the paths at or above the goals' context, if the goals are several
     pub chain-iff : (c : ℕ) → Has (chain parent count R start) c ↔ ((severalb (start .goals) ≡ true) × Below parent c (start .top))
@@ -205,7 +209,8 @@ module _ {parent : ℕ → ℕ} {rules : List Rule} {count : ℕ} {R : ℕ → �
   root-named : (g : ℕ) → Has (row parent count R start 0) g → NamedPart parent count R goals (onePart 0 g)
   root-named g h = pick (how-many begins) (root-row g zero-in .0 h)
     where
-      pick : HowMany goals (start .goals) → (severalb (start .goals) ≡ false) × Has (start .goals) g → NamedPart parent count R goals (onePart 0 g)
+      pick : HowMany goals (start .goals) → (severalb (start .goals) ≡ false) × Has (start .goals) g
+          → NamedPart parent count R goals (onePart 0 g)
       pick (several e s) r = absurd (true≢false (sym e ∙ r .0))
       pick (unique e f s) r =
           let p : g ≡ f = List·Memᴰ·eq-of-singleton (subst (λ (l : List ℕ). List·Memᴰ g l) s (begins .word .is g .0 (r .1))) in
@@ -227,7 +232,8 @@ module _ {parent : ℕ → ℕ} {rules : List Rule} {count : ℕ} {R : ℕ → �
       (λ f m. row-named-in left (parent c) f (parent-fuel desc c left l) (omega (arith, parent-le desc c)) m)
     where
       kid : 0 < c → Below parent c g → KidGoal parent count R start (parent c) (row parent count R start (parent c)) g
-          → ((f : ℕ) → Has (row parent count R start (parent c)) f → NamedPart parent count R goals (onePart (parent c) f)) → NamedPart parent count R goals (onePart c g)
+          → ((f : ℕ) → Has (row parent count R start (parent c)) f → NamedPart parent count R goals (onePart (parent c) f))
+              → NamedPart parent count R goals (onePart c g)
       kid p b (ofAll q k) again =
           subst (NamedPart parent count R goals) (child-is c g p b)
           (further (allPart (parent c) goals) (all-named q) (kids-of-all q (childFor parent (parent c) g) .1 (alone g k refl)))
@@ -248,7 +254,8 @@ module _ {parent : ℕ → ℕ} {rules : List Rule} {count : ℕ} {R : ℕ → �
   row-named {c} {g} s h = row-named-in c c g (omega arith) s h
 
   -- a child with one goal is in the row of its path
-  kid-found : {c : ℕ} {a k : Part} (h : ℕ) → a .path ≡ c → NamedPart parent count R goals a → List·Memᴰ k (kidsOf parent count (wordReach R) a)
+  kid-found : {c : ℕ} {a k : Part} (h : ℕ) → a .path ≡ c → NamedPart parent count R goals a
+      → List·Memᴰ k (kidsOf parent count (wordReach R) a)
       → k ≡ childFor parent c h → KidGoal parent count R start c (row parent count R start c) h → Found parent count R goals start k
   kid-found {c} {a} {k} h on n m e q =
       let s = kid-may-stand n m in
