@@ -153,7 +153,7 @@ module _ {parent : ℕ → ℕ} {rules : List Rule} {count : ℕ} {R : ℕ → �
       unfolding kidsOn block
       kids-numbered =
           matches-each (kidBlock parent count R goals start handed w) _ (members (childPaths parent count c))
-              (λ k m. on k (child-mem parent count few c k .0 m))
+          (λ k m. on k (child-mem parent count few c k .0 m))
         where
           ch : ℕ
           ch = chain parent count R start
@@ -179,7 +179,7 @@ module _ {parent : ℕ → ℕ} {rules : List Rule} {count : ℕ} {R : ℕ → �
               (λ t. number-all goals ch rs (pathOrder parent count) k (in-order desc within few shallow words begins (r .1)) (on-chain k t)))
               (matches-map (onePart k) (numberOf ch rs (pathOrder parent count) k) (members (common w (subtree parent count k)))
               (λ h m. number-one goals ch rs (pathOrder parent count) k h (row-word desc within few shallow words begins (r .1))
-                  (in-order desc within few shallow words begins (r .1)) (in-row k r h m)))
+              (in-order desc within few shallow words begins (r .1)) (in-row k r h m)))
 
       -- an entry lays its part down, where the blocks are the part's children
       lays-down : (a : Part) → a .path ≡ c
@@ -191,7 +191,7 @@ module _ {parent : ℕ → ℕ} {rules : List Rule} {count : ℕ} {R : ℕ → �
         path = sym e;
         ascending = sorted-ascending
             (matches-sorted kids-ordered kids-numbered
-                (λ x y m n p q r. sorted-less precedes-asym (parts-ordered desc within few shallow words begins) q r p)) (λ n m. omega arith);
+            (λ x y m n p q r. sorted-less precedes-asym (parts-ordered desc within few shallow words begins) q r p)) (λ n m. omega arith);
         only = λ n m.
             let r = matches-partner kids-numbered m in
             record {
@@ -241,7 +241,7 @@ module _ {parent : ℕ → ℕ} {rules : List Rule} {count : ℕ} {R : ℕ → �
         (subst (λ (z : ℕ). List·Memᴰ (j .path) (members (childPaths parent count z))) on (kid-path n m))
         (kid-block c handed w small (j .path) j .1 (InBlock.one h
         (has-common w (subtree parent count (j .path)) h .1
-            (k, subtree-iff desc (j .path) count (s .small) few h .1 (v .small h d, v .below h d)))
+        (k, subtree-iff desc (j .path) count (s .small) few h .1 (v .small h d, v .below h d)))
         (e ∙ ap (λ (z : ℕ). onePart z h) (sym (ap pathOf e)))))
 
     -- what stands in a block with one goal is a child with a goal of its own
@@ -303,7 +303,7 @@ module _ {parent : ℕ → ℕ} {rules : List Rule} {count : ℕ} {R : ℕ → �
           → List·Memᴰ j (kidsOf parent count (wordReach R) (allPart c goals))
       out m =
           let r = each-from (kidBlock parent count R goals start true (allKids parent count R start c))
-              (members (childPaths parent count c)) j m in
+          (members (childPaths parent count c)) j m in
           kids .1 (back (r .source) (child-mem parent count few c (r .source) .0 (r .listed))
           (kid-block c true (allKids parent count R start c) small (r .source) j .0 (r .member)))
 
@@ -334,7 +334,7 @@ module _ {parent : ℕ → ℕ} {rules : List Rule} {count : ℕ} {R : ℕ → �
           → List·Memᴰ j (kidsOf parent count (wordReach R) (onePart c g))
       out m =
           let r = each-from (kidBlock parent count R goals start false (oneKids parent count R c g))
-              (members (childPaths parent count c)) j m in
+          (members (childPaths parent count c)) j m in
           kids .1 (back (r .source) (child-mem parent count few c (r .source) .0 (r .listed))
           (kid-block c false (oneKids parent count R c g) small (r .source) j .0 (r .member)))
 

@@ -125,8 +125,11 @@ module _ {parent : ℕ → ℕ} {count : ℕ} (desc : Descending parent) (few : 
       → ((x : ℕ) → List·Memᴰ x required → 0 < x) → Begins parent count (0 ∷ required) (startConsistency (askedIn required))
   begins-consistency {required} z inTable inner = record {
     goalsIn = needed-goals desc z inTable;
-    word = record { small = asked-small required; is = λ g. Iff·trans (askedIn-iff required (λ x m. omega (arith, inTable x m)) g)
-        (goal g, need g) };
+    word = record {
+      small = asked-small required;
+      is = λ g. Iff·trans (askedIn-iff required (λ x m. omega (arith, inTable x m)) g)
+          (goal g, need g);
+    };
     top = sym (below-zero desc (meet-above desc (List·Memᴰ·head refl)));
     plain = λ g o. single required inner g o;
   }
@@ -145,8 +148,13 @@ module _ {parent : ℕ → ℕ} {count : ℕ} (desc : Descending parent) (few : 
       single : (l : List ℕ) → ((x : ℕ) → List·Memᴰ x l → 0 < x) → (g : ℕ) → Only (0 ∷ l) g → 0 ∷ l ≡ g ∷ []
       single [] h g o = ap (λ (z : ℕ). z ∷ []) (o .alone 0 (List·Memᴰ·head refl))
       single (x ∷ l) h g o =
-          absurd (omega (arith, h x (List·Memᴰ·head refl), o .alone 0 (List·Memᴰ·head refl), o .alone x
-              (List·Memᴰ·tail (List·Memᴰ·head refl))))
+          absurd (omega (
+            arith,
+            h x (List·Memᴰ·head refl),
+            o .alone 0 (List·Memᴰ·head refl),
+            o .alone x
+                (List·Memᴰ·tail (List·Memᴰ·head refl)),
+          ))
 
 module _ {parent : ℕ → ℕ} {rules : List Rule} {count : ℕ} (fits : Fits parent rules count) where
   -- the computed reachable sets are the words from which a document is made
@@ -160,7 +168,7 @@ module _ {parent : ℕ → ℕ} {rules : List Rule} {count : ℕ} (fits : Fits p
     -- the computed document is the one written down
     pub document-writes : {goals : List ℕ} {start : Start} → Begins parent count goals start
         → WritesDocument parent count (reachb parent rules count) (partZero goals)
-            (handedEntries parent count (reachable parent rules count) start)
+        (handedEntries parent count (reachable parent rules count) start)
     unfolding reachb
     document-writes begins = handed-writes (fits .descending) (fits .rulesIn) (fits .few) shallow reachable-words begins
 
@@ -205,7 +213,7 @@ module _ {parent : ℕ → ℕ} {rules : List Rule} {count : ℕ} (fits : Fits p
         let t = tree-exists desc (fits .rulesIn) (reach-decides fits) (begins .goalsIn) in
         let iff = implies-iff fits p q l k in
         stands-breaks-implication desc (fits .rulesIn) (reach-decides fits) (begins .goalsIn) (begins .plain) (document-writes begins) s
-            (t .1)
+        (t .1)
         (implication-no desc (fits .rulesIn) (reach-decides fits) l (contextOf-context desc p q) (λ r. far (iff .1 (inl r)))
         (λ r. far (iff .1 (inr r))) (t .1))
 

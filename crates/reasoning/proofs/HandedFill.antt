@@ -16,8 +16,8 @@ use mathlib.Core.List.{
   Memᴰ·append-right,
 }
 use native.Mathlib.Omega.{arith}
-use lib.Dec.{T, eqb, lit<, T-not, not-T}
-use borrow.Author.Tests.{eqb-true, eqb-false}
+use lib.Dec.{T, eqb, lit<}
+use borrow.Author.Tests.{eqb-true}
 use Rattle.files.specs.Table.{Rule}
 use Rattle.files.specs.Sets.{bit, Has, withPath, withoutPath, difference}
 use Rattle.files.proofs.SetBits.{
@@ -50,7 +50,7 @@ use Rattle.reasoning.specs.Parts.{
 }
 use Rattle.reasoning.specs.Handed.{ReachWords, wordReach, highest, reachAll, coverEach, fillWord, kidWord}
 use Rattle.reasoning.proofs.Walks.{reach-refl, reach-end}
-use Rattle.reasoning.proofs.Fill.{Some, someb-some, some-someb}
+use Rattle.reasoning.proofs.Fill.{someb-some, some-someb}
 use Rattle.reasoning.proofs.Kids.{Goals, any-small}
 use Rattle.reasoning.proofs.HandedWords.{
   has-none,
@@ -75,35 +75,9 @@ use Rattle.reasoning.proofs.HandedKids.{
   own-kids,
   covers-word,
   covers-one,
+  lacks-iff,
+  snoc-iff,
 }
-
-module _ (reach : ℕ → ℕ → ℕ → Bool) (a : Part) where
-  -- x gets a child exactly if it is another path, is reached, and no child covers it
-  lacks-iff : (chosen : List Part) (x : ℕ) → T (lacksb reach a chosen x)
-      ↔ ((a .path ≡ x → ⊥) × T (coversb reach a x) × (T (someb (λ k. coversb reach k x) chosen) → ⊥))
-  unfolding lacksb
-  lacks-iff chosen x = pick (eqb (a .path) x) refl (coversb reach a x) refl
-    where
-      pick : (b : Bool) → eqb (a .path) x ≡ b → (t : Bool) → coversb reach a x ≡ t → T (lacksb reach a chosen x)
-          ↔ ((a .path ≡ x → ⊥) × T (coversb reach a x) × (T (someb (λ k. coversb reach k x) chosen) → ⊥))
-      pick true e t f = (λ k. absurd (rw (lacksb, e) at k), λ k. absurd (k .0 (eqb-true (a .path) x e)))
-      pick false e true f = (
-        λ k. (eqb-false (a .path) x e, rw f tt, T-not (someb (λ k. coversb reach k x) chosen) (rw (lacksb, e, f) at k)),
-        λ k. rw (lacksb, e, f) (not-T (someb (λ k. coversb reach k x) chosen) (k .2)),
-      )
-      pick false e false f = (λ k. absurd (rw (lacksb, e, f) at k), λ k. absurd (rw f at (k .1)))
-
--- a test passes on a list with one member more
-snoc-iff : (test : Part → Bool) (l : List Part) (k : Part) → T (someb test (l ++ (k ∷ []))) ↔ (T (someb test l) ⊎ T (test k))
-snoc-iff test l k = (λ t. let s = someb-some test (l ++ (k ∷ [])) t in out s (List·Memᴰ·append-cases l (s .listed)), into)
-  where
-    out : (s : Some test (l ++ (k ∷ []))) → List·Memᴰ (s .member) l ⊎ List·Memᴰ (s .member) (k ∷ []) → T (someb test l) ⊎ T (test k)
-    out s (inl m) = inl (some-someb test (s .member) m (s .passes))
-    out s (inr m) = inr (subst (λ (z : Part). T (test z)) (List·Memᴰ·eq-of-singleton m) (s .passes))
-
-    into : T (someb test l) ⊎ T (test k) → T (someb test (l ++ (k ∷ [])))
-    into (inl t) = let s = someb-some test l t in some-someb test (s .member) (Memᴰ·append-left (k ∷ []) (s .listed)) (s .passes)
-    into (inr t) = some-someb test k (Memᴰ·append-right l (List·Memᴰ·head refl)) t
 
 module _ (parent : ℕ → ℕ) (count : ℕ) (R : ℕ → ℕ → ℕ) where
   -- what the goals' own children cover
@@ -117,7 +91,7 @@ module _ (parent : ℕ → ℕ) (count : ℕ) (R : ℕ → ℕ → ℕ) where
     unfolding coverEach
     each-covers own x =
         let r = gather-iff (λ g. R (towards parent c g) g) 64 (withoutPath w c) 0 x (without-lt w c (word .small))
-            (size-le (withoutPath w c)) in (
+        (size-le (withoutPath w c)) in (
           λ s.
               let m = someb-some (λ k. coversb (wordReach R) k x) (ownKids parent c goals) s in
               r .1 (inr (out (own (m .member) .0 (m .listed)) (m .passes))),
@@ -145,7 +119,7 @@ module _ (parent : ℕ → ℕ) (count : ℕ) (R : ℕ → ℕ → ℕ) where
           out (own-kids word {top = top} (onWay n t) (m .member) .0 (m .listed)) (m .passes),
       λ h.
           some-someb (λ k. coversb (wordReach R) k x) (childForAll parent c goals)
-              (own-kids word {top = top} (onWay n t) _ .1 (all refl refl))
+          (own-kids word {top = top} (onWay n t) _ .1 (all refl refl))
           (covers-word parent R word count (towards parent c (meetAll parent goals)) x .1
           (subst (λ (z : ℕ). Has (reachAll parent count R (towards parent c z) w) x) t h)),
     )
@@ -180,7 +154,7 @@ module _ (parent : ℕ → ℕ) (count : ℕ) (R : ℕ → ℕ → ℕ) where
   unfolding kidWord
   kid-word-small c w top true l =
       fill-small c 64 (difference (withoutPath (reachAll parent count R c w) c) (reachAll parent count R (towards parent c top) w)) 0
-          (lit< tt)
+      (lit< tt)
   kid-word-small c w top false l =
       fill-small c 64 (difference (withoutPath (reachAll parent count R c w) c) (coverEach parent count R c (withoutPath w c)))
       (withoutPath w c) (without-lt w c l)
@@ -201,7 +175,7 @@ module _ (parent : ℕ → ℕ) (count : ℕ) (R : ℕ → ℕ → ℕ) where
       pick : (b : Bool) → eqb left 0 ≡ b
           → fillWord parent count R c (suc fuel) left chosen
           ≡ fillWord parent count R c fuel (difference left (R (towards parent c (highest left)) (highest left)))
-              (withPath chosen (highest left))
+          (withPath chosen (highest left))
       pick true e = absurd (omega (arith, eqb-true left 0 e))
       pick false e = rw (fillWord, e)
 
@@ -229,7 +203,7 @@ module _ (parent : ℕ → ℕ) (count : ℕ) (R : ℕ → ℕ → ℕ) where
     fill-words (suc x) (suc fuel) left own chosen f s l inv is k =
         pick (lacksb (wordReach R) part chosen x) refl
         (λ h i j. fill-words x fuel (difference left (R (towards parent (part .path) x) x)) (withPath own x)
-            (chosen ++ (childFor parent (part .path) x ∷ []))
+        (chosen ++ (childFor parent (part .path) x ∷ []))
         (omega arith) (omega arith) h i j k)
         (λ h i. fill-words x (suc fuel) left own chosen (omega arith) (omega arith) h i is k)
       where
@@ -238,7 +212,7 @@ module _ (parent : ℕ → ℕ) (count : ℕ) (R : ℕ → ℕ → ℕ) where
 
         after : (y : ℕ) → y < x
             → T (lacksb (wordReach R) part (chosen ++ (childFor parent (part .path) x ∷ [])) y)
-                ↔ Has (difference left (R (towards parent (part .path) x) x)) y
+            ↔ Has (difference left (R (towards parent (part .path) x) x)) y
         after y h = (into, out)
           where
             r : ℕ
@@ -258,7 +232,7 @@ module _ (parent : ℕ → ℕ) (count : ℕ) (R : ℕ → ℕ → ℕ) where
                 let d = has-difference left r y .0 m in
                 let p = lacks-iff (wordReach R) part chosen y .0 (inv y (omega arith) .1 (d .0)) in
                 lacks-iff (wordReach R) part (chosen ++ (childFor parent (part .path) x ∷ [])) y .1
-                    (p .0, p .1, λ u. never p (snoc-iff (λ j. cov j y) chosen (childFor parent (part .path) x) .0 u))
+                (p .0, p .1, λ u. never p (snoc-iff (λ j. cov j y) chosen (childFor parent (part .path) x) .0 u))
               where
                 never : (part .path ≡ y → ⊥) × T (cov part y) × (T (someb (λ j. cov j y) chosen) → ⊥)
                     → T (someb (λ j. cov j y) chosen) ⊎ T (cov (childFor parent (part .path) x) y) → ⊥
@@ -292,12 +266,12 @@ module _ (parent : ℕ → ℕ) (count : ℕ) (R : ℕ → ℕ → ℕ) where
             → (difference left (R (towards parent (part .path) x) x) < 2 ^ x
             → ((y : ℕ) → y < x
             → T (lacksb (wordReach R) part (chosen ++ (childFor parent (part .path) x ∷ [])) y)
-                ↔ Has (difference left (R (towards parent (part .path) x) x)) y)
+            ↔ Has (difference left (R (towards parent (part .path) x) x)) y)
             → ((j : Part) → List·Memᴰ j (chosen ++ (childFor parent (part .path) x ∷ []))
-                ↔ KidBy parent (part .path) (part .goals) handed (withPath own x) j)
+            ↔ KidBy parent (part .path) (part .goals) handed (withPath own x) j)
             → List·Memᴰ k (fill parent (wordReach R) part x (chosen ++ (childFor parent (part .path) x ∷ [])))
             ↔ KidBy parent (part .path) (part .goals) handed
-                (fillWord parent count R (part .path) fuel (difference left (R (towards parent (part .path) x) x)) (withPath own x)) k)
+            (fillWord parent count R (part .path) fuel (difference left (R (towards parent (part .path) x) x)) (withPath own x)) k)
             → (left < 2 ^ x → ((y : ℕ) → y < x → T (lacksb (wordReach R) part chosen y) ↔ Has left y)
             → List·Memᴰ k (fill parent (wordReach R) part x chosen)
             ↔ KidBy parent (part .path) (part .goals) handed (fillWord parent count R (part .path) (suc fuel) left own) k)

@@ -103,7 +103,7 @@ module _ (parent : ℕ → ℕ) (count : ℕ) (R : ℕ → ℕ → ℕ) (c : ℕ
       pick (bit-cases left n)
       (λ q. fill-fuel n (suc fuel) (suc more) left chosen q (omega arith) (omega arith) (omega arith) own)
       (λ q m. fill-fuel n fuel more (difference left (R (towards parent c n) n)) (withPath chosen n) q (omega arith) (omega arith)
-          (omega arith)
+      (omega arith)
       (fewer left (R (towards parent c n) n) own))
     where
       pick : Has left n ⊎ (bit left n ≡ 0)
@@ -117,7 +117,7 @@ module _ (parent : ℕ → ℕ) (count : ℕ) (R : ℕ → ℕ → ℕ) (c : ℕ
           let top : highest left ≡ n = highest-is left n (omega arith) l m in
           let p = has-positive left n m in
           fill-more parent count R c fuel left chosen p ∙ rw top (step (uncovered parent count R c left n l (own n m)) m)
-              ∙ sym (fill-more parent count R c more left chosen p)
+          ∙ sym (fill-more parent count R c more left chosen p)
 
   -- the highest path that is left gets a child, and what that covers goes
   pub fill-next : (left chosen : ℕ) → 0 < left → left < 2 ^ 64 → Itself left
@@ -128,7 +128,7 @@ module _ (parent : ℕ → ℕ) (count : ℕ) (R : ℕ → ℕ → ℕ) (c : ℕ
       let x = highest left in
       fill-more parent count R c 63 left chosen p
       ∙ fill-fuel x 63 64 (difference left (R (towards parent c x) x)) (withPath chosen x)
-          (uncovered parent count R c left x (h .above) (own x (h .member)))
+      (uncovered parent count R c left x (h .above) (own x (h .member)))
       (omega (arith, h .inner)) (omega (arith, h .inner)) (omega (arith, h .inner)) (fewer left (R (towards parent c x) x) own)
 
 module _ {parent : ℕ → ℕ} (desc : Descending parent) where

@@ -6,7 +6,7 @@ use mathlib.Core.Bool.{Bool, true, false, not, false≢true, true≢false}
 use mathlib.Core.List.{List, [], _∷_, List·Memᴰ, List·Memᴰ·head, List·Memᴰ·eq-of-singleton}
 use native.Mathlib.Decide.{ℕ-discrete}
 use native.Mathlib.Omega.{arith}
-use lib.Dec.{eqb, lit<}
+use lib.Dec.{eqb}
 use borrow.Author.Tests.{eqb-true, eqb-false}
 use Rattle.files.specs.Table.{Rule}
 use Rattle.files.specs.Sets.{Has, lowest, withoutLowest}
@@ -23,7 +23,7 @@ use Rattle.reasoning.specs.Handed.{Start, ReachWords, wordReach, several
 use Rattle.reasoning.proofs.Reachable.{subtree-iff}
 use Rattle.reasoning.proofs.Kids.{Goals, kids-are, kid-stands, meet-above}
 use Rattle.reasoning.proofs.Completeness.{named-goals, chain-named}
-use Rattle.reasoning.proofs.HandedWords.{has-none, climb-iff, climb-small}
+use Rattle.reasoning.proofs.HandedWords.{has-none, climb-iff}
 use Rattle.reasoning.proofs.HandedKids.{KidBy, all, alone, Mode, onWay, meeting, single}
 use Rattle.reasoning.proofs.HandedFill.{kid-word}
 use Rattle.reasoning.proofs.HandedRows.{
@@ -125,14 +125,6 @@ module _ {parent : ℕ → ℕ} {count : ℕ} {goals : List ℕ} {start : Start}
             (λ h. (e, out (r .0 (rw (chain, e) at h))), λ p. rw (chain, e) (r .1 (inr (p .1))))
         pick false e = (λ h. absurd (has-none (rw (chain, e) at h)), λ p. absurd (false≢true (sym e ∙ p .0)))
 
-    pub chain-word : chain parent count R start < 2 ^ 64
-    unfolding chain
-    chain-word = pick (severalb (start .goals)) refl
-      where
-        pick : (b : Bool) → severalb (start .goals) ≡ b → chain parent count R start < 2 ^ 64
-        pick true e = rw (chain, e) (climb-small desc (start .top) (start .top) 0 (lit< tt))
-        pick false e = rw (chain, e) (lit< tt)
-
     -- how a part with all goals hands them on
     mode-of : (c : ℕ) → Mode parent c goals (start .top) (not (eqb c (start .top)))
     mode-of c = pick (eqb c (start .top)) refl
@@ -233,7 +225,7 @@ module _ {parent : ℕ → ℕ} {rules : List Rule} {count : ℕ} {R : ℕ → �
     where
       kid : 0 < c → Below parent c g → KidGoal parent count R start (parent c) (row parent count R start (parent c)) g
           → ((f : ℕ) → Has (row parent count R start (parent c)) f → NamedPart parent count R goals (onePart (parent c) f))
-              → NamedPart parent count R goals (onePart c g)
+          → NamedPart parent count R goals (onePart c g)
       kid p b (ofAll q k) again =
           subst (NamedPart parent count R goals) (child-is c g p b)
           (further (allPart (parent c) goals) (all-named q) (kids-of-all q (childFor parent (parent c) g) .1 (alone g k refl)))

@@ -120,7 +120,7 @@ module _ (parent : ℕ → ℕ) (count : ℕ) (few : count ≤ 64) where
   layers-sorted zero d = Sorted.none
   layers-sorted (suc left) d =
       sorted-append (level (members (layer parent count d)) (λ x m. layer-mem d x .0 m .1)
-          (ascending-sorted (members-ascending (layer parent count d))))
+      (ascending-sorted (members-ascending (layer parent count d))))
       (layers-sorted left (suc d))
       (λ x y m n. shallower (omega (arith, layer-mem d x .0 m .1, layers-mem left (suc d) y .0 n .1)))
     where
@@ -196,7 +196,7 @@ module _ (goals : List ℕ) (w c : ℕ) (small : w < 2 ^ 64) where
       into (all t e) = List·Memᴰ·head e
       into (one g h e) =
           List·Memᴰ·tail (subst (λ (z : Part). List·Memᴰ z (map (onePart c) (members w))) (sym e)
-              (from-map (onePart c) (mem-members w g small .1 h)))
+          (from-map (onePart c) (mem-members w g small .1 h)))
   in-block false a = (
     λ m. let r = map-from (onePart c) (members w) a m in one (r .0) (mem-members w (r .0) small .0 (r .1)) (r .2),
     into,

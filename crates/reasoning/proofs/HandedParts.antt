@@ -73,7 +73,7 @@ module _ {parent : ℕ → ℕ} {rules : List Rule} {count : ℕ} {R : ℕ → �
       let l = order-in-table parent count few (r .source) (r .listed) in
       pick (r .source) l
       (in-block goals (row parent count R start (r .source)) (r .source) (row-word l) (hasb (chain parent count R start) (r .source)) a .0
-          (r .member))
+      (r .member))
     where
       pick : (c : ℕ) → c < count → InBlock goals (hasb (chain parent count R start) c) (row parent count R start c) c a
           → NamedPart parent count R goals a

@@ -11,7 +11,7 @@ use lib.Pow.{pow-pos}
 use lib.Count.{leading-unique}
 use borrow.Author.Tests.{eqb-true, eqb-false}
 use Rattle.files.specs.Sets.{bit, Has, withPath, union, lowest, withoutLowest, size}
-use Rattle.files.proofs.SetBits.{bit-small, bit-past, bit-of-zero, not-has, has-with, has-union, with-lt, union-lt}
+use Rattle.files.proofs.SetBits.{bit-small, bit-past, bit-of-zero, not-has, has-with, has-union, union-lt}
 use Rattle.files.proofs.SetLowest.{has-lowest, has-without-lowest, without-lowest-lt}
 use Rattle.files.proofs.SetMembers.{size-without-lowest}
 use Rattle.documents.specs.Paths.{Below, same, Descending}
@@ -140,15 +140,6 @@ module _ (f : ℕ → ℕ) where
           rw (e, gather) (λ k. out (has-lowest w p l) (r .0 k), λ k. r .1 (into k))
 
 module _ {parent : ℕ → ℕ} (desc : Descending parent) where
-  pub climb-small : (fuel x w : ℕ) → w < 2 ^ 64 → climbAll parent fuel x w < 2 ^ 64
-  unfolding climbAll
-  climb-small zero x w l = with-lt w x l
-  climb-small (suc fuel) x w l = pick (eqb x 0) refl (climb-small fuel (parent x) (withPath w x) (with-lt w x l))
-    where
-      pick : (b : Bool) → eqb x 0 ≡ b → climbAll parent fuel (parent x) (withPath w x) < 2 ^ 64 → climbAll parent (suc fuel) x w < 2 ^ 64
-      pick true e again = rw (e, climbAll) (with-lt w 0 l)
-      pick false e again = rw (e, climbAll) again
-
   -- the paths at or above x join
   pub climb-iff : (fuel x w y : ℕ) → x ≤ fuel → x < 64 → Has (climbAll parent fuel x w) y ↔ (Has w y ⊎ Below parent y x)
   unfolding climbAll

@@ -179,7 +179,7 @@ module _ {parent : ℕ → ℕ} {rules : List Rule} {count : ℕ} {R : ℕ → �
 
   kids-few : (c : ℕ) (handed : Bool) (w : ℕ)
       → length (entryOn parent count R start (chain parent count R start) (goalRows parent count R start)
-          (pathOrder parent count) c handed w .kids)
+      (pathOrder parent count) c handed w .kids)
       ≤ 64
   unfolding entryOn kidsOn block
   kids-few c handed w =
@@ -205,7 +205,7 @@ module _ {parent : ℕ → ℕ} {rules : List Rule} {count : ℕ} {R : ℕ → �
 
       same : (k : ℕ)
           → length (kidsOn parent count R start (chain parent count R start) (goalRows parent count R start)
-              (pathOrder parent count) handed w k)
+          (pathOrder parent count) handed w k)
           ≡ length (block goals (handed && hasb (chain parent count R start) k) (common w (subtree parent count k)) k)
       same k =
           let ns = map (numberOf (chain parent count R start) (goalRows parent count R start) (pathOrder parent count) k)
