@@ -125,7 +125,16 @@ use Rattle.reasoning.specs.Examples.{Example, answerTo, examples}
 
 -- what answers are computed from: to unfold this is to unfold all of it
 unfoldable pub computing : ℕ
-unfolding leadingZeros trailingZeros bytesOf bytesOfAll bit hasb withPath withoutPath union common difference lowest withoutLowest sizeBelow size membersFrom members climbsTo belowb meet contextOf climbUnder towards climbs depthOf partNumbers documentNumbers firstFrom least passing someIn tail tip foot head joinChildren subtree goesAlong goesAgainst carry byRule byRules byClimbs oneStep settle alone reachable reachb ruleMove leastMove forward seek writtenWalk ruleAt askedIn bothFrom clashb clashRule clashes clashing clashesFrom isDead deadPath deadRule deadPaths sidesFrom pairb pairRule isPair pairSide reacher rootSides rootb rootRule isRootPair rootFirst rootSecond isAskedDead deadAsked walkNumbers firstSide secondSide impliesb excludesb yesb consistentb directNumbers deadNumbersBy deadNumbers pairNumbers implicationNumbers absenceNumbers evidenceNumbers inconsistentNumbers highest gather eachOf onlyIf climbAll startBoth startNo severalb reachAll coverEach fillWord kidWord oneKids chain allKids kidsAt rootGoals goalsOn rowsFrom goalRows layer layersFrom pathOrder childPaths partsOn placeOf numberOf kidsOn entryOn entriesOn handedEntries handedNumbers
+unfolding leadingZeros trailingZeros bytesOf bytesOfAll bit hasb withPath withoutPath union common difference lowest withoutLowest
+    sizeBelow size membersFrom members climbsTo belowb meet contextOf climbUnder towards climbs depthOf partNumbers
+    documentNumbers firstFrom least passing someIn tail tip foot head joinChildren subtree goesAlong goesAgainst carry byRule
+    byRules byClimbs oneStep settle alone reachable reachb ruleMove leastMove forward seek writtenWalk ruleAt askedIn bothFrom
+    clashb clashRule clashes clashing clashesFrom isDead deadPath deadRule deadPaths sidesFrom pairb pairRule isPair pairSide
+    reacher rootSides rootb rootRule isRootPair rootFirst rootSecond isAskedDead deadAsked walkNumbers firstSide secondSide
+    impliesb excludesb yesb consistentb directNumbers deadNumbersBy deadNumbers pairNumbers implicationNumbers absenceNumbers
+    evidenceNumbers inconsistentNumbers highest gather eachOf onlyIf climbAll startBoth startNo severalb reachAll coverEach
+    fillWord kidWord oneKids chain allKids kidsAt rootGoals goalsOn rowsFrom goalRows layer layersFrom pathOrder childPaths
+    partsOn placeOf numberOf kidsOn entryOn entriesOn handedEntries handedNumbers
 computing = 0
 
 -- every example has its answer

@@ -118,9 +118,13 @@ pub chaining-fails : (d : Forest) × Document parentT 5 d × Implication parentT
     × (Implication parentT 2 3 d → ⊥)
 chaining-fails =
     let t = document-tree fitsE1 shallowT (begins-implication descendingT (lit≤ tt) {p = 2} (lit≤ tt)) in
-    let b = implication-document fitsE1 shallowT 2 3 (lit≤ tt) (lit≤ tt) not-implied (t .0) (t .1) in
-    (t .0, b .isDocument, b .obeys .each 0 (implies 2 4) first .implication refl, b .obeys .each 1 (implies 4 3) (later first) .implication refl,
-    b .breaks)
+    let b = implication-document fitsE1 shallowT 2 3 (lit≤ tt) (lit≤ tt) not-implied (t .0) (t .1) in (
+      t .0,
+      b .isDocument,
+      b .obeys .each 0 (implies 2 4) first .implication refl,
+      b .obeys .each 1 (implies 4 3) (later first) .implication refl,
+      b .breaks,
+    )
 
 -- 2 has an implication path to 3
 pathE : (rules : List Rule) → Numbered rules 0 (implies 2 4) → Numbered rules 1 (implies 4 3) → ImplicationPath parentT rules 2 3

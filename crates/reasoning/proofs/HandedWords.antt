@@ -11,7 +11,7 @@ use lib.Pow.{pow-pos}
 use lib.Count.{leading-unique}
 use borrow.Author.Tests.{eqb-true, eqb-false}
 use Rattle.files.specs.Sets.{bit, Has, withPath, union, lowest, withoutLowest, size}
-use Rattle.files.proofs.SetBits.{bit-small, bit-past, bit-of-zero, not-has, has-with, has-union, with-lt, union-lt}
+use Rattle.files.proofs.SetBits.{bit-small, bit-past, bit-of-zero, not-has, has-with, has-union, union-lt}
 use Rattle.files.proofs.SetLowest.{has-lowest, has-without-lowest, without-lowest-lt}
 use Rattle.files.proofs.SetMembers.{size-without-lowest}
 use Rattle.documents.specs.Paths.{Below, same, Descending}
@@ -21,6 +21,14 @@ use Rattle.reasoning.specs.Handed.{highest, gather, climbAll}
 -- a set has nothing in common with the empty one
 pub has-none : {i : ℕ} → Has 0 i → ⊥
 has-none {i} h = not-has (bit-of-zero i) h
+
+-- a set that has a path is not empty
+pub has-positive : (w x : ℕ) → Has w x → 0 < w
+has-positive w x h = pick (ℕ-discrete w 0)
+  where
+    pick : Dec (w ≡ 0) → 0 < w
+    pick (yes e) = absurd (has-none (subst (λ (z : ℕ). Has z x) e h))
+    pick (no n) = omega arith
 
 -- a word of x + 1 digits without path x has x digits
 pub top-absent : (w x : ℕ) → w < 2 ^ suc x → bit w x ≡ 0 → w < 2 ^ x
@@ -132,15 +140,6 @@ module _ (f : ℕ → ℕ) where
           rw (e, gather) (λ k. out (has-lowest w p l) (r .0 k), λ k. r .1 (into k))
 
 module _ {parent : ℕ → ℕ} (desc : Descending parent) where
-  pub climb-small : (fuel x w : ℕ) → w < 2 ^ 64 → climbAll parent fuel x w < 2 ^ 64
-  unfolding climbAll
-  climb-small zero x w l = with-lt w x l
-  climb-small (suc fuel) x w l = pick (eqb x 0) refl (climb-small fuel (parent x) (withPath w x) (with-lt w x l))
-    where
-      pick : (b : Bool) → eqb x 0 ≡ b → climbAll parent fuel (parent x) (withPath w x) < 2 ^ 64 → climbAll parent (suc fuel) x w < 2 ^ 64
-      pick true e again = rw (e, climbAll) (with-lt w 0 l)
-      pick false e again = rw (e, climbAll) again
-
   -- the paths at or above x join
   pub climb-iff : (fuel x w y : ℕ) → x ≤ fuel → x < 64 → Has (climbAll parent fuel x w) y ↔ (Has w y ⊎ Below parent y x)
   unfolding climbAll

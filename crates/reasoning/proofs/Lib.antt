@@ -16,9 +16,11 @@ pub mod HandedDisjoint
 pub mod HandedDocuments
 pub mod HandedFill
 pub mod HandedKids
+pub mod HandedLoops
 pub mod HandedNamed
 pub mod HandedOrder
 pub mod HandedParts
+pub mod HandedQuestions
 pub mod HandedRows
 pub mod HandedTree
 pub mod HandedWords

@@ -38,7 +38,7 @@ answerTo set (ask kind p q) =
     elim (yesb parent (set .rules) count kind p q) [
       | true ↦ yesBy (bytesOfAll (evidenceNumbers parent (set .rules) count kind p q))
       | false ↦ noBy
-        (bytesOfAll (handedNumbers parent count (reachable parent (set .rules) count) (startNo parent (set .rules) count kind p q)))
+          (bytesOfAll (handedNumbers parent count (reachable parent (set .rules) count) (startNo parent (set .rules) count kind p q)))
     ]
 
 -- an example: rules and required paths, what is asked, and its answer
