@@ -69,7 +69,7 @@ module _ (t : Rules) (out : List ℕ) where
 
 module _ (t : Rules) (word : t .required < 2 ^ 64) (v : ValidTable t) where
   -- the computed test says whether some document does
-  pub agrees-some : T (consistentb (parentsOf t) (ruleListOf t) (t .paths) (askedOf t)) ↔ Some t
+  agrees-some : T (agreesb t) ↔ Some t
   agrees-some =
       subst (λ (w : ℕ). T (consistentb (parentsOf t) (ruleListOf t) (t .paths) w) ↔ Some t) (sym (asked-is t word))
       (consistent-some (table-fits t v) (rulesOf t .required) (v .some) (required-in t v))
@@ -118,7 +118,9 @@ module _ (t : Rules) (word : t .required < 2 ^ 64) (v : ValidTable t) where
 -- what consistency may answer and leave
 pub data ConsistencyCase (t : Rules) (out : List ℕ) (r : Consistency) (after : List ℕ) : Type 0 where
   notValid : (ValidTable t → ⊥) → r ≡ Consistency.Refused 12 0 → after ≡ out → ConsistencyCase t out r after
-  noRoom : ValidTable t → length out < 65536 → r ≡ Consistency.Refused 20 0 → after ≡ out → ConsistencyCase t out r after
+  noRoom : ValidTable t → length out < 65536
+      → ((Consistent (parentsOf t) (ruleListOf t) (t .paths) (rulesOf t .required) → ⊥) → length out < 392)
+      → r ≡ Consistency.Refused 20 0 → after ≡ out → ConsistencyCase t out r after
   agrees : (n : ℕ) → ValidTable t → r ≡ Consistency.Consistent n → n ≤ length out
       → HandsBack t (take n after) (Witnesses (parentsOf t) (ruleListOf t) (t .paths) (rulesOf t .required)) → ConsistencyCase t out r after
   conflicts : (n : ℕ) → ValidTable t → r ≡ Consistency.Inconsistent n → n ≤ length out
@@ -139,7 +141,7 @@ module _ (t : Rules) (out : List ℕ) (r : Consistency) (after : List ℕ) (word
           (subst
           (λ (b : List ℕ). HandsBack t b (Witnesses (parentsOf t) (ruleListOf t) (t .paths) (rulesOf t .required))) (sym s)
           (agrees-document t word v c))
-      agreed v c (tooLong h e s) = noRoom v (omega (arith, consistent-room t word v)) e s
+      agreed v c (tooLong h e s) = noRoom v (omega (arith, consistent-room t word v)) (λ n. absurd (n (agrees-some t word v .0 c))) e s
 
       conflicting : ValidTable t → (T (agreesb t) → ⊥)
           → Placed Consistency.Inconsistent Consistency.Refused (inconsistentBytes t) out r after → ConsistencyCase t out r after
@@ -147,7 +149,7 @@ module _ (t : Rules) (out : List ℕ) (r : Consistency) (after : List ℕ) (word
           conflicts (length (inconsistentBytes t)) v e h (λ c. n (agrees-some t word v .1 c))
           (subst (λ (b : List ℕ). BringsEvidence b (ShowsInconsistent (parentsOf t) (ruleListOf t) (askedOf t))) (sym s)
           (conflict-shown t word v n))
-      conflicting v n (tooLong h e s) = noRoom v (omega (arith, inconsistent-room t word v n)) e s
+      conflicting v n (tooLong h e s) = let l = inconsistent-room t word v n in noRoom v (omega arith) (λ c. omega arith) e s
 
       pick : (a : Bool) → tablePasses t ≡ a → (b : Bool) → agreesb t ≡ b → ConsistencyCase t out r after
       pick false e b f =
@@ -171,18 +173,18 @@ module _ (t : Rules) (out : List ℕ) (r : Consistency) (after : List ℕ) (word
         answer = is;
         buffer = leaves;
         invalid = (λ f. n, λ f. e);
-        refused = λ k at f. (let z : _≡_ {A = ℕ} at 0 = cc in z, s);
+        refused = λ m at f. (let z : _≡_ {A = ℕ} at 0 = cc in z, s);
         consistent = λ m f. absurd (let z : _≡_ {A = ℕ} 0 1 = cc in omega arith);
         inconsistent = λ m f. absurd (let z : _≡_ {A = ℕ} 0 1 = cc in omega arith);
         within = λ m. ⊎-elim (λ (f : r ≡ Consistency.Consistent m). absurd (let z : _≡_ {A = ℕ} 0 1 = cc in omega arith))
             (λ (f : r ≡ Consistency.Inconsistent m). absurd (let z : _≡_ {A = ℕ} 0 1 = cc in omega arith));
         room = λ h f. let z : _≡_ {A = ℕ} 12 20 = cc in omega arith;
       }
-      by (noRoom v l e s) = record {
+      by (noRoom v l k e s) = record {
         answer = is;
         buffer = leaves;
         invalid = (λ f. absurd (let z : _≡_ {A = ℕ} 12 20 = cc in omega arith), λ f. absurd (f v));
-        refused = λ k at f. (let z : _≡_ {A = ℕ} at 0 = cc in z, s);
+        refused = λ m at f. (let z : _≡_ {A = ℕ} at 0 = cc in z, s);
         consistent = λ m f. absurd (let z : _≡_ {A = ℕ} 0 1 = cc in omega arith);
         inconsistent = λ m f. absurd (let z : _≡_ {A = ℕ} 0 1 = cc in omega arith);
         within = λ m. ⊎-elim (λ (f : r ≡ Consistency.Consistent m). absurd (let z : _≡_ {A = ℕ} 0 1 = cc in omega arith))

@@ -28,11 +28,13 @@ pub mod HandedWords
 pub mod HandsBack
 pub mod Kids
 pub mod Least
+pub mod Meaning
 pub mod Moves
 pub mod OneStep
 pub mod Order
 pub mod Pairs
 pub mod Placed
+pub mod QuestionJoins
 pub mod Reachable
 pub mod RootPair
 pub mod Search
