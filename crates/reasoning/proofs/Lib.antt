@@ -1,4 +1,5 @@
 -- The laws of walks, of reachable sets, of the decisions, of evidence and of the documents handed back.
+pub mod Agreeing
 pub mod Answers
 pub mod Completeness
 pub mod ConsistencyJoins
