@@ -26,7 +26,7 @@ use Rattle.reasoning.specs.Calls.{
   DecidesConsistency,
 }
 use Rattle.reasoning.specs.Decide.{askedIn}
-use Rattle.reasoning.specs.Evidence.{consistentb, inconsistentNumbers, ShowsInconsistent, WritesInconsistent}
+use Rattle.reasoning.specs.Evidence.{consistentb, inconsistentNumbers, ShowsInconsistent, WritesInconsistent, Bounded}
 use Rattle.reasoning.specs.Follows.{Witnesses, Consistent}
 use Rattle.reasoning.specs.Handed.{startConsistency}
 use Rattle.reasoning.proofs.Answers.{consistent-some}
@@ -77,7 +77,12 @@ module _ (t : Rules) (word : t .required < 2 ^ 64) (v : ValidTable t) where
   begins : Begins (parentsOf t) (t .paths) (0 ∷ rulesOf t .required) (startConsistency (askedIn (rulesOf t .required)))
   begins = begins-consistency (table-fits t v .descending) (table-fits t v .few) (v .some) (required-in t v) (required-inner t v)
 
-  -- the document of a consistent table is handed back
+  -- what the document of a consistent table begins with
+  pub asked-begins : Begins (parentsOf t) (t .paths) (0 ∷ rulesOf t .required) (startConsistency (askedOf t))
+  asked-begins =
+      subst (λ (w : ℕ). Begins (parentsOf t) (t .paths) (0 ∷ rulesOf t .required) (startConsistency w)) (sym (asked-is t word)) begins
+
+  -- that document is handed back
   agrees-document : T (agreesb t)
       → HandsBack t (documentBytes t (startConsistency (askedOf t)))
       (Witnesses (parentsOf t) (ruleListOf t) (t .paths) (rulesOf t .required))
@@ -91,8 +96,7 @@ module _ (t : Rules) (word : t .required < 2 ^ 64) (v : ValidTable t) where
 
   -- and takes at most 65,536 bytes
   pub consistent-room : length (documentBytes t (startConsistency (askedOf t))) ≤ 65536
-  consistent-room =
-      subst (λ (w : ℕ). length (documentBytes t (startConsistency w)) ≤ 65536) (sym (asked-is t word)) (document-room t v begins)
+  consistent-room = document-room t v asked-begins
 
   module _ (never : T (agreesb t) → ⊥) where
     written : WritesInconsistent (parentsOf t) (ruleListOf t) (askedOf t)
@@ -108,10 +112,14 @@ module _ (t : Rules) (word : t .required < 2 ^ 64) (v : ValidTable t) where
       shown = inconsistent-shows (table-fits t v .descending) written;
     }
 
-    -- and takes at most 392 bytes
+    -- it has at most 196 numbers
+    pub conflict-bounded : Bounded 196 (inconsistentNumbers (parentsOf t) (ruleListOf t) (t .paths) (askedOf t))
+    conflict-bounded = inconsistent-bounded (table-fits t v) (asked-in t word v) written
+
+    -- and so at most 392 bytes
     pub inconsistent-room : length (inconsistentBytes t) ≤ 392
     unfolding inconsistentBytes
-    inconsistent-room = bounded-bytes (inconsistent-bounded (table-fits t v) (asked-in t word v) written)
+    inconsistent-room = bounded-bytes conflict-bounded
 
 -- ---- the cases of an answer
 

@@ -33,7 +33,7 @@ use Rattle.reasoning.specs.Calls.{
   questionOf,
   AnswersQuestion,
 }
-use Rattle.reasoning.specs.Evidence.{yesb, evidenceNumbers, Shows}
+use Rattle.reasoning.specs.Evidence.{yesb, evidenceNumbers, Shows, Bounded}
 use Rattle.reasoning.proofs.Answers.{implies-every, excludes-every, together-every}
 use Rattle.reasoning.proofs.EvidenceSize.{evidence-bounded}
 use Rattle.reasoning.proofs.HandedQuestions.{begins-no, question-document}
@@ -123,12 +123,16 @@ module _ (t : Rules) (v : ValidTable t) (kind p q : ℕ) (a : Asked t kind p q) 
       shown = yes-shows (table-fits t v) kind p q (a .first) (a .second) (kinds kind (a .low) (a .high)) y;
     }
 
-    -- and takes at most 784 bytes
+    -- it has at most 392 numbers
+    pub yes-bounded : Bounded 392 (evidenceNumbers (parentsOf t) (ruleListOf t) (t .paths) kind p q)
+    yes-bounded =
+        evidence-bounded (table-fits t v) (a .first) (a .second)
+        (evidence-written (table-fits t v) kind p q (a .first) (a .second) (kinds kind (a .low) (a .high)) y)
+
+    -- and so at most 784 bytes
     pub evidence-room : length (evidenceBytes t kind p q) ≤ 784
     unfolding evidenceBytes
-    evidence-room =
-        bounded-bytes (evidence-bounded (table-fits t v) (a .first) (a .second)
-        (evidence-written (table-fits t v) kind p q (a .first) (a .second) (kinds kind (a .low) (a .high)) y))
+    evidence-room = bounded-bytes yes-bounded
 
   -- the document of a question answered no is handed back
   no-document : (T (saysYes t kind p q) → ⊥) → HandsBack t (documentBytes t (counterStart t kind p q)) (Breaks t (questionOf kind p q))

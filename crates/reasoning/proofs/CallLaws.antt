@@ -1,0 +1,180 @@
+-- The laws that the code of the two calls cites at its returns, in the code's words: the words from which the document was made,
+-- the numbers collected as evidence, and what putting their bytes answered.
+use Prim.Native.Nat.{ℕ, _%_, _^_, _≤_, _<_}
+use mathlib.Core.Path.{_≡_, refl, sym, ap, ap₂, subst, _∙_}
+use mathlib.Core.Bool.{true, false}
+use mathlib.Core.List.{List, [], _∷_, List·Memᴰ, List·Memᴰ·head, List·Memᴰ·tail}
+use native.Mathlib.Omega.{arith}
+use lib.Dec.{T}
+use lib.ListN.{length}
+use Rattle.files.specs.declared.rules.Rules.{Rules}
+use Rattle.files.specs.declared.write.Written.{Written}
+use Rattle.files.specs.Number.{limit, bytesOfAll}
+use Rattle.files.specs.Rules.{ValidTable}
+use Rattle.files.specs.Writing.{tablePasses, put, wrapped, Puts}
+use Rattle.files.proofs.TableTests.{passes-valid}
+use Rattle.reasoning.specs.declared.consistency.Consistency.{Consistency}
+use Rattle.reasoning.specs.declared.question.Reply.{Reply}
+use Rattle.reasoning.specs.Calls.{
+  parentsOf,
+  ruleListOf,
+  askedOf,
+  Answered,
+  answerOf,
+  documentBytes,
+  inconsistentBytes,
+  evidenceBytes,
+  askable,
+  counterStart,
+  DecidesConsistency,
+  AnswersQuestion,
+}
+use Rattle.reasoning.specs.Evidence.{consistentb, yesb, evidenceNumbers, inconsistentNumbers, Bounded}
+use Rattle.reasoning.specs.Handed.{Start, ReachWords, startConsistency, handedNumbers}
+use Rattle.reasoning.proofs.Agreeing.{numbers-agree}
+use Rattle.reasoning.proofs.ConsistencyJoins.{
+  consistency-invalid,
+  consistency-agrees,
+  consistency-conflicts,
+  asked-begins,
+  conflict-bounded,
+  consistency-decides,
+}
+use Rattle.reasoning.proofs.HandedRows.{Begins}
+use Rattle.reasoning.proofs.HandedQuestions.{begins-no}
+use Rattle.reasoning.proofs.Placed.{puts-answer}
+use Rattle.reasoning.proofs.QuestionJoins.{ask-invalid, ask-unasked, ask-yes, ask-no, Asked, askable-asked, yes-bounded, ask-answers}
+use Rattle.reasoning.proofs.Sizes.{numbers-few, bytes-few}
+use Rattle.reasoning.proofs.ValidFits.{table-fits, table-shallow}
+
+-- ---- the document's and the evidence's numbers
+
+-- the numbers of a document are at most 449, and it takes at most 65,536 bytes
+pub record FitsBuffer (numbers : List ℕ) : Type 0 where
+  pub small : (n : ℕ) → List·Memᴰ n numbers → n ≤ 449
+  pub short : length (bytesOfAll numbers) ≤ 65536
+
+module _ (t : Rules) (v : ValidTable t) {R : ℕ → ℕ → ℕ} (words : ReachWords (parentsOf t) (ruleListOf t) (t .paths) R) {goals : List ℕ}
+    {start : Start} (begins : Begins (parentsOf t) (t .paths) goals start) where
+  words-bytes : bytesOfAll (handedNumbers (parentsOf t) (t .paths) R start) ≡ documentBytes t start
+  unfolding documentBytes
+  words-bytes = ap bytesOfAll (numbers-agree (table-fits t v) (table-shallow t v) words begins)
+
+  words-fit : FitsBuffer (handedNumbers (parentsOf t) (t .paths) R start)
+  words-fit =
+      let f = table-fits t v in
+      record {
+        small = numbers-few (f .descending) (f .rulesIn) (f .few) (table-shallow t v) words begins;
+        short = bytes-few (f .descending) (f .rulesIn) (f .few) (table-shallow t v) words begins;
+      }
+
+wrapped-small : (ns : List ℕ) → ((k : ℕ) → List·Memᴰ k ns → k ≤ 512) → wrapped ns ≡ ns
+unfolding wrapped
+wrapped-small [] h = refl
+wrapped-small (n ∷ ns) h =
+    let few = h n (List·Memᴰ·head refl) in
+    let small : n % limit ≡ n = omega arith in
+    ap₂ (λ (m : ℕ) (ms : List ℕ). m ∷ ms) small (wrapped-small ns (λ k m. h k (List·Memᴰ·tail m)))
+
+-- evidence put as the numbers collected
+collected : {n : ℕ} {ns : List ℕ} (numbers out : List ℕ) {w : Written} {after : List ℕ} → Bounded n ns → numbers ≡ ns
+    → Puts (put (bytesOfAll (wrapped numbers)) out) w after → Puts (put (bytesOfAll ns) out) w after
+collected {ns = ns} numbers out {w} {after} b e p =
+    subst (λ (l : List ℕ). Puts (put (bytesOfAll l) out) w after) (ap wrapped e ∙ wrapped-small ns (b .small)) p
+
+-- ---- consistency
+
+module _ (t : Rules) (out : List ℕ) (word : t .required < 2 ^ 64) where
+  -- a table that is not valid
+  pub consistency-refuses : tablePasses t ≡ false → DecidesConsistency t out (Consistency.Refused 12 0) out
+  consistency-refuses e =
+      let z = consistency-invalid t out e in
+      consistency-decides t out (Consistency.Refused 12 0) out word (sym (ap (λ (x : Answered Consistency). x .answer) z))
+      (sym (ap (λ (x : Answered Consistency). x .buffer) z))
+
+  module _ (passes : tablePasses t ≡ true) where
+    valid : ValidTable t
+    valid = passes-valid t word .0 passes
+
+    -- the document to be written is short enough
+    pub consistency-fits : {R : ℕ → ℕ → ℕ} → ReachWords (parentsOf t) (ruleListOf t) (t .paths) R
+        → FitsBuffer (handedNumbers (parentsOf t) (t .paths) R (startConsistency (askedOf t)))
+    consistency-fits words = words-fit t valid words (asked-begins t word valid)
+
+    -- consistent: the document was put
+    pub consistency-hands : {R : ℕ → ℕ → ℕ} → ReachWords (parentsOf t) (ruleListOf t) (t .paths) R
+        → consistentb (parentsOf t) (ruleListOf t) (t .paths) (askedOf t) ≡ true → (w : Written) (r : Consistency) (after : List ℕ)
+        → Puts (put (bytesOfAll (handedNumbers (parentsOf t) (t .paths) R (startConsistency (askedOf t)))) out) w after
+        → r ≡ answerOf Consistency.Consistent Consistency.Refused w → DecidesConsistency t out r after
+    consistency-hands words f w r after p g =
+        let q = subst (λ (b : List ℕ). Puts (put b out) w after) (words-bytes t valid words (asked-begins t word valid)) p in
+        let h = puts-answer Consistency.Consistent Consistency.Refused (documentBytes t (startConsistency (askedOf t))) out
+        (consistency-agrees t out passes f) q g in
+        consistency-decides t out r after word (h .0) (h .1)
+
+    -- inconsistent: the evidence was put
+    pub consistency-shows : consistentb (parentsOf t) (ruleListOf t) (t .paths) (askedOf t) ≡ false → (numbers : List ℕ)
+        → numbers ≡ inconsistentNumbers (parentsOf t) (ruleListOf t) (t .paths) (askedOf t) → (w : Written) (r : Consistency)
+        (after : List ℕ) → Puts (put (bytesOfAll (wrapped numbers)) out) w after
+        → r ≡ answerOf Consistency.Inconsistent Consistency.Refused w → DecidesConsistency t out r after
+    unfolding inconsistentBytes
+    consistency-shows f numbers e w r after p g =
+        let q = collected numbers out (conflict-bounded t word valid (λ c. subst T f c)) e p in
+        let h = puts-answer Consistency.Inconsistent Consistency.Refused (inconsistentBytes t) out
+        (consistency-conflicts t out passes f) q g in
+        consistency-decides t out r after word (h .0) (h .1)
+
+-- ---- questions
+
+module _ (t : Rules) (kind p q : ℕ) (out : List ℕ) (word : t .required < 2 ^ 64) where
+  -- a table that is not valid
+  pub ask-refuses : tablePasses t ≡ false → AnswersQuestion t kind p q out (Reply.Refused 12 0) out
+  ask-refuses e =
+      let z = ask-invalid t kind p q out e in
+      ask-answers t kind p q out (Reply.Refused 12 0) out word (sym (ap (λ (x : Answered Reply). x .answer) z))
+      (sym (ap (λ (x : Answered Reply). x .buffer) z))
+
+  module _ (passes : tablePasses t ≡ true) where
+    sound : ValidTable t
+    sound = passes-valid t word .0 passes
+
+    -- a question that cannot be asked
+    pub ask-bars : askable t kind p q ≡ false → AnswersQuestion t kind p q out (Reply.Refused 13 0) out
+    ask-bars e =
+        let z = ask-unasked t kind p q out passes e in
+        ask-answers t kind p q out (Reply.Refused 13 0) out word (sym (ap (λ (x : Answered Reply). x .answer) z))
+        (sym (ap (λ (x : Answered Reply). x .buffer) z))
+
+    module _ (can : askable t kind p q ≡ true) where
+      counter-begins : (goals : List ℕ) × Begins (parentsOf t) (t .paths) goals (counterStart t kind p q)
+      counter-begins =
+          let a = askable-asked t kind p q can in
+          begins-no (table-fits t sound) kind p q (a .first) (a .second)
+
+      -- the counter-document to be written is short enough
+      pub ask-fits : {R : ℕ → ℕ → ℕ} → ReachWords (parentsOf t) (ruleListOf t) (t .paths) R
+          → FitsBuffer (handedNumbers (parentsOf t) (t .paths) R (counterStart t kind p q))
+      ask-fits words = words-fit t sound words (counter-begins .1)
+
+      -- yes: the evidence was put
+      pub ask-shows : yesb (parentsOf t) (ruleListOf t) (t .paths) kind p q ≡ true → (numbers : List ℕ)
+          → numbers ≡ evidenceNumbers (parentsOf t) (ruleListOf t) (t .paths) kind p q → (w : Written) (r : Reply) (after : List ℕ)
+          → Puts (put (bytesOfAll (wrapped numbers)) out) w after → r ≡ answerOf Reply.Yes Reply.Refused w
+          → AnswersQuestion t kind p q out r after
+      unfolding evidenceBytes
+      ask-shows f numbers e w r after s g =
+          let b = yes-bounded t sound kind p q (askable-asked t kind p q can) (subst T (sym f) tt) in
+          let h = puts-answer Reply.Yes Reply.Refused (evidenceBytes t kind p q) out (ask-yes t kind p q out passes can f)
+          (collected numbers out b e s) g in
+          ask-answers t kind p q out r after word (h .0) (h .1)
+
+      -- no: the counter-document was put
+      pub ask-hands : {R : ℕ → ℕ → ℕ} → ReachWords (parentsOf t) (ruleListOf t) (t .paths) R
+          → yesb (parentsOf t) (ruleListOf t) (t .paths) kind p q ≡ false → (w : Written) (r : Reply) (after : List ℕ)
+          → Puts (put (bytesOfAll (handedNumbers (parentsOf t) (t .paths) R (counterStart t kind p q))) out) w after
+          → r ≡ answerOf Reply.No Reply.Refused w → AnswersQuestion t kind p q out r after
+      ask-hands words f w r after s g =
+          let d = subst (λ (b : List ℕ). Puts (put b out) w after) (words-bytes t sound words (counter-begins .1)) s in
+          let h = puts-answer Reply.No Reply.Refused (documentBytes t (counterStart t kind p q)) out
+          (ask-no t kind p q out passes can f) d g in
+          ask-answers t kind p q out r after word (h .0) (h .1)
