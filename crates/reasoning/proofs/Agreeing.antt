@@ -68,7 +68,9 @@ module _ {parent : ℕ → ℕ} {rules : List Rule} {count : ℕ} {reach test : 
         same-test (someb (λ k. coversb reach k x) chosen) (someb (λ k. coversb test k x) chosen)
         (someb-into (λ k. coversb reach k x) (λ k. coversb test k x) chosen (λ k m t. subst T (covers-same k x (h k m) l) t))
         (someb-into (λ k. coversb test k x) (λ k. coversb reach k x) chosen (λ k m t. subst T (sym (covers-same k x (h k m) l)) t)) in
-        ap₂ (λ (b c : Bool). elim (eqb (a .path) x) as (λ _. Bool) [ true ↦ false | false ↦ elim b as (λ _. Bool) [ true ↦ not c | false ↦ false ] ])
+        ap₂
+        (λ (b c : Bool).
+        elim (eqb (a .path) x) as (λ _. Bool) [ true ↦ false | false ↦ elim b as (λ _. Bool) [ true ↦ not c | false ↦ false ] ])
         (covers-same a x v l) some
 
     fill-same : (left : ℕ) → left ≤ count → (chosen : List Part)
@@ -125,7 +127,8 @@ module _ {parent : ℕ → ℕ} {rules : List Rule} {count : ℕ} {reach test : 
     named = λ a m. named-same desc within decides tests v (w .named a m);
     every = λ a n. w .every a (named-same desc within tests decides v n);
     ordered = w .ordered;
-    entries = matches-into (w .entries) (λ a e m p. lays a e (kids-same desc within decides tests a (named-goals desc within decides v (w .named a m))) p);
+    entries = matches-into (w .entries) (λ a e m p.
+        lays a e (kids-same desc within decides tests a (named-goals desc within decides v (w .named a m))) p);
   }
     where
       lays : (a : Part) (e : Entry) → kidsOf parent count reach a ≡ kidsOf parent count test a → LaysDown parent count reach (w .parts) a e

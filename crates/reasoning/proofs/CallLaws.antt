@@ -43,7 +43,7 @@ use Rattle.reasoning.proofs.ConsistencyJoins.{
 use Rattle.reasoning.proofs.HandedRows.{Begins}
 use Rattle.reasoning.proofs.HandedQuestions.{begins-no}
 use Rattle.reasoning.proofs.Placed.{puts-answer}
-use Rattle.reasoning.proofs.QuestionJoins.{ask-invalid, ask-unasked, ask-yes, ask-no, Asked, askable-asked, yes-bounded, ask-answers}
+use Rattle.reasoning.proofs.QuestionJoins.{ask-invalid, ask-unasked, ask-yes, ask-no, askable-asked, yes-bounded, ask-answers}
 use Rattle.reasoning.proofs.Sizes.{numbers-few, bytes-few}
 use Rattle.reasoning.proofs.ValidFits.{table-fits, table-shallow}
 

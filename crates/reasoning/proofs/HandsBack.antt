@@ -1,7 +1,6 @@
 -- The document that a call hands back over a valid table: its bytes are read back as a list of parts that stands for a tree, and
 -- they are at most 65,536; the bytes of evidence are at most 784.
-use Prim.Native.Nat.{ℕ, _+_, _*_, _≤_, _<_}
-use mathlib.Core.Path.{_≡_}
+use Prim.Native.Nat.{ℕ, _*_, _≤_}
 use mathlib.Core.List.{List}
 use native.Mathlib.Omega.{arith}
 use lib.ListN.{length}
