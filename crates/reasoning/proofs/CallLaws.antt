@@ -1,7 +1,7 @@
 -- The laws that the code of the two calls cites at its returns, in the code's words: the words from which the document was made,
 -- the numbers collected as evidence, and what putting their bytes answered.
 use Prim.Native.Nat.{ℕ, _%_, _^_, _≤_, _<_}
-use mathlib.Core.Path.{_≡_, refl, sym, ap, ap₂, subst, _∙_}
+use mathlib.Core.Path.{_≡_, refl, sym, ap, ap₂, subst, subst₂, _∙_}
 use mathlib.Core.Bool.{true, false}
 use mathlib.Core.List.{List, [], _∷_, List·Memᴰ, List·Memᴰ·head, List·Memᴰ·tail}
 use native.Mathlib.Omega.{arith}
@@ -10,11 +10,13 @@ use lib.ListN.{length}
 use Rattle.files.specs.declared.rules.Rules.{Rules}
 use Rattle.files.specs.declared.write.Written.{Written}
 use Rattle.files.specs.Number.{limit, bytesOfAll}
-use Rattle.files.specs.Rules.{ValidTable}
+use Rattle.files.specs.Rules.{parentsIn, ValidTable}
+use Rattle.files.specs.Table.{Rule}
 use Rattle.files.specs.Writing.{tablePasses, put, wrapped, Puts}
 use Rattle.files.proofs.TableTests.{passes-valid}
 use Rattle.reasoning.specs.declared.consistency.Consistency.{Consistency}
 use Rattle.reasoning.specs.declared.question.Reply.{Reply}
+use Rattle.reasoning.specs.Arrays.{parentOf, ruleList}
 use Rattle.reasoning.specs.Calls.{
   parentsOf,
   ruleListOf,
@@ -30,7 +32,7 @@ use Rattle.reasoning.specs.Calls.{
   AnswersQuestion,
 }
 use Rattle.reasoning.specs.Evidence.{consistentb, yesb, evidenceNumbers, inconsistentNumbers, Bounded}
-use Rattle.reasoning.specs.Handed.{Start, ReachWords, startConsistency, handedNumbers}
+use Rattle.reasoning.specs.Handed.{Start, ReachWords, startConsistency, startNo, handedNumbers}
 use Rattle.reasoning.proofs.Agreeing.{numbers-agree}
 use Rattle.reasoning.proofs.ConsistencyJoins.{
   consistency-invalid,
@@ -45,6 +47,7 @@ use Rattle.reasoning.proofs.HandedQuestions.{begins-no}
 use Rattle.reasoning.proofs.Placed.{puts-answer}
 use Rattle.reasoning.proofs.QuestionJoins.{ask-invalid, ask-unasked, ask-yes, ask-no, askable-asked, yes-bounded, ask-answers}
 use Rattle.reasoning.proofs.Sizes.{numbers-few, bytes-few}
+use Rattle.reasoning.proofs.TableArrays.{arrays-rules, arrays-parents}
 use Rattle.reasoning.proofs.ValidFits.{table-fits, table-shallow}
 
 -- ---- the document's and the evidence's numbers
@@ -92,36 +95,54 @@ module _ (t : Rules) (out : List ℕ) (word : t .required < 2 ^ 64) where
       consistency-decides t out (Consistency.Refused 12 0) out word (sym (ap (λ (x : Answered Consistency). x .answer) z))
       (sym (ap (λ (x : Answered Consistency). x .buffer) z))
 
-  module _ (passes : tablePasses t ≡ true) where
+  module _ (passes : tablePasses t ≡ true) (parent : List ℕ) (lent : parent ≡ parentsIn (t .parent) (t .paths)) where
     valid : ValidTable t
     valid = passes-valid t word .0 passes
 
-    -- the document to be written is short enough
-    pub consistency-fits : {R : ℕ → ℕ → ℕ} → ReachWords (parentsOf t) (ruleListOf t) (t .paths) R
-        → FitsBuffer (handedNumbers (parentsOf t) (t .paths) R (startConsistency (askedOf t)))
-    consistency-fits words = words-fit t valid words (asked-begins t word valid)
+    -- the rules as the arrays have them
+    abbrev many : List Rule
+    many = ruleList (t .kind) (t .left) (t .right) (t .rules)
 
-    -- consistent: the document was put
-    pub consistency-hands : {R : ℕ → ℕ → ℕ} → ReachWords (parentsOf t) (ruleListOf t) (t .paths) R
-        → consistentb (parentsOf t) (ruleListOf t) (t .paths) (askedOf t) ≡ true → (w : Written) (r : Consistency) (after : List ℕ)
-        → Puts (put (bytesOfAll (handedNumbers (parentsOf t) (t .paths) R (startConsistency (askedOf t)))) out) w after
-        → r ≡ answerOf Consistency.Consistent Consistency.Refused w → DecidesConsistency t out r after
-    consistency-hands words f w r after p g =
-        let q = subst (λ (b : List ℕ). Puts (put b out) w after) (words-bytes t valid words (asked-begins t word valid)) p in
-        let h = puts-answer Consistency.Consistent Consistency.Refused (documentBytes t (startConsistency (askedOf t))) out
-        (consistency-agrees t out passes f) q g in
-        consistency-decides t out r after word (h .0) (h .1)
+    parents-same : parentOf parent ≡ parentsOf t
+    parents-same = arrays-parents t valid parent lent
+
+    module _ {R : ℕ → ℕ → ℕ} (words : ReachWords (parentOf parent) (ruleList (t .kind) (t .left) (t .right) (t .rules)) (t .paths) R) where
+      words-of : ReachWords (parentsOf t) (ruleListOf t) (t .paths) R
+      words-of = subst₂ (λ (p : ℕ → ℕ) (l : List Rule). ReachWords p l (t .paths) R) parents-same (arrays-rules t) words
+
+      -- the document to be written is short enough
+      pub consistency-fits : FitsBuffer (handedNumbers (parentOf parent) (t .paths) R (startConsistency (askedOf t)))
+      consistency-fits =
+          subst (λ (p : ℕ → ℕ). FitsBuffer (handedNumbers p (t .paths) R (startConsistency (askedOf t)))) (sym parents-same)
+          (words-fit t valid words-of (asked-begins t word valid))
+
+      -- consistent: the document was put
+      pub consistency-hands : consistentb (parentOf parent) many (t .paths) (askedOf t) ≡ true
+          → (w : Written) (r : Consistency) (after : List ℕ)
+          → Puts (put (bytesOfAll (handedNumbers (parentOf parent) (t .paths) R (startConsistency (askedOf t)))) out) w after
+          → r ≡ answerOf Consistency.Consistent Consistency.Refused w → DecidesConsistency t out r after
+      consistency-hands f w r after p g =
+          let same : bytesOfAll (handedNumbers (parentOf parent) (t .paths) R (startConsistency (askedOf t)))
+              ≡ documentBytes t (startConsistency (askedOf t)) =
+          ap (λ (z : ℕ → ℕ). bytesOfAll (handedNumbers z (t .paths) R (startConsistency (askedOf t)))) parents-same
+          ∙ words-bytes t valid words-of (asked-begins t word valid) in
+          let test = subst₂ (λ (z : ℕ → ℕ) (l : List Rule). consistentb z l (t .paths) (askedOf t) ≡ true) parents-same (arrays-rules t) f in
+          let h = puts-answer Consistency.Consistent Consistency.Refused (documentBytes t (startConsistency (askedOf t))) out
+          (consistency-agrees t out passes test) (subst (λ (b : List ℕ). Puts (put b out) w after) same p) g in
+          consistency-decides t out r after word (h .0) (h .1)
 
     -- inconsistent: the evidence was put
-    pub consistency-shows : consistentb (parentsOf t) (ruleListOf t) (t .paths) (askedOf t) ≡ false → (numbers : List ℕ)
-        → numbers ≡ inconsistentNumbers (parentsOf t) (ruleListOf t) (t .paths) (askedOf t) → (w : Written) (r : Consistency)
-        (after : List ℕ) → Puts (put (bytesOfAll (wrapped numbers)) out) w after
+    pub consistency-shows : consistentb (parentOf parent) many (t .paths) (askedOf t) ≡ false → (numbers : List ℕ)
+        → numbers ≡ inconsistentNumbers (parentOf parent) many (t .paths) (askedOf t)
+        → (w : Written) (r : Consistency) (after : List ℕ) → Puts (put (bytesOfAll (wrapped numbers)) out) w after
         → r ≡ answerOf Consistency.Inconsistent Consistency.Refused w → DecidesConsistency t out r after
     unfolding inconsistentBytes
     consistency-shows f numbers e w r after p g =
-        let q = collected numbers out (conflict-bounded t word valid (λ c. subst T f c)) e p in
+        let test = subst₂ (λ (z : ℕ → ℕ) (l : List Rule). consistentb z l (t .paths) (askedOf t) ≡ false) parents-same (arrays-rules t) f in
+        let are = e ∙ ap₂ (λ (z : ℕ → ℕ) (l : List Rule). inconsistentNumbers z l (t .paths) (askedOf t)) parents-same (arrays-rules t) in
         let h = puts-answer Consistency.Inconsistent Consistency.Refused (inconsistentBytes t) out
-        (consistency-conflicts t out passes f) q g in
+        (consistency-conflicts t out passes test)
+        (collected numbers out (conflict-bounded t word valid (λ c. subst T test c)) are p) g in
         consistency-decides t out r after word (h .0) (h .1)
 
 -- ---- questions
@@ -134,47 +155,66 @@ module _ (t : Rules) (kind p q : ℕ) (out : List ℕ) (word : t .required < 2 ^
       ask-answers t kind p q out (Reply.Refused 12 0) out word (sym (ap (λ (x : Answered Reply). x .answer) z))
       (sym (ap (λ (x : Answered Reply). x .buffer) z))
 
-  module _ (passes : tablePasses t ≡ true) where
+  -- a question that cannot be asked
+  pub ask-bars : tablePasses t ≡ true → askable t kind p q ≡ false → AnswersQuestion t kind p q out (Reply.Refused 13 0) out
+  ask-bars passes e =
+      let z = ask-unasked t kind p q out passes e in
+      ask-answers t kind p q out (Reply.Refused 13 0) out word (sym (ap (λ (x : Answered Reply). x .answer) z))
+      (sym (ap (λ (x : Answered Reply). x .buffer) z))
+
+  module _ (passes : tablePasses t ≡ true) (can : askable t kind p q ≡ true) (parent : List ℕ)
+      (lent : parent ≡ parentsIn (t .parent) (t .paths)) where
     sound : ValidTable t
     sound = passes-valid t word .0 passes
 
-    -- a question that cannot be asked
-    pub ask-bars : askable t kind p q ≡ false → AnswersQuestion t kind p q out (Reply.Refused 13 0) out
-    ask-bars e =
-        let z = ask-unasked t kind p q out passes e in
-        ask-answers t kind p q out (Reply.Refused 13 0) out word (sym (ap (λ (x : Answered Reply). x .answer) z))
-        (sym (ap (λ (x : Answered Reply). x .buffer) z))
+    -- the rules as the arrays have them
+    abbrev listed : List Rule
+    listed = ruleList (t .kind) (t .left) (t .right) (t .rules)
 
-    module _ (can : askable t kind p q ≡ true) where
-      counter-begins : (goals : List ℕ) × Begins (parentsOf t) (t .paths) goals (counterStart t kind p q)
-      counter-begins =
-          let a = askable-asked t kind p q can in
-          begins-no (table-fits t sound) kind p q (a .first) (a .second)
+    same-parents : parentOf parent ≡ parentsOf t
+    same-parents = arrays-parents t sound parent lent
+
+    counter-begins : (goals : List ℕ) × Begins (parentsOf t) (t .paths) goals (counterStart t kind p q)
+    counter-begins =
+        let a = askable-asked t kind p q can in
+        begins-no (table-fits t sound) kind p q (a .first) (a .second)
+
+    -- yes: the evidence was put
+    pub ask-shows : yesb (parentOf parent) listed (t .paths) kind p q ≡ true → (numbers : List ℕ)
+        → numbers ≡ evidenceNumbers (parentOf parent) listed (t .paths) kind p q → (w : Written) (r : Reply) (after : List ℕ)
+        → Puts (put (bytesOfAll (wrapped numbers)) out) w after → r ≡ answerOf Reply.Yes Reply.Refused w
+        → AnswersQuestion t kind p q out r after
+    unfolding evidenceBytes
+    ask-shows f numbers e w r after s g =
+        let test = subst₂ (λ (z : ℕ → ℕ) (l : List Rule). yesb z l (t .paths) kind p q ≡ true) same-parents (arrays-rules t) f in
+        let are = e ∙ ap₂ (λ (z : ℕ → ℕ) (l : List Rule). evidenceNumbers z l (t .paths) kind p q) same-parents (arrays-rules t) in
+        let b = yes-bounded t sound kind p q (askable-asked t kind p q can) (subst T (sym test) tt) in
+        let h = puts-answer Reply.Yes Reply.Refused (evidenceBytes t kind p q) out (ask-yes t kind p q out passes can test)
+        (collected numbers out b are s) g in
+        ask-answers t kind p q out r after word (h .0) (h .1)
+
+    module _ {R : ℕ → ℕ → ℕ} (words : ReachWords (parentOf parent) (ruleList (t .kind) (t .left) (t .right) (t .rules)) (t .paths) R) where
+      words-in : ReachWords (parentsOf t) (ruleListOf t) (t .paths) R
+      words-in = subst₂ (λ (z : ℕ → ℕ) (l : List Rule). ReachWords z l (t .paths) R) same-parents (arrays-rules t) words
 
       -- the counter-document to be written is short enough
-      pub ask-fits : {R : ℕ → ℕ → ℕ} → ReachWords (parentsOf t) (ruleListOf t) (t .paths) R
-          → FitsBuffer (handedNumbers (parentsOf t) (t .paths) R (counterStart t kind p q))
-      ask-fits words = words-fit t sound words (counter-begins .1)
-
-      -- yes: the evidence was put
-      pub ask-shows : yesb (parentsOf t) (ruleListOf t) (t .paths) kind p q ≡ true → (numbers : List ℕ)
-          → numbers ≡ evidenceNumbers (parentsOf t) (ruleListOf t) (t .paths) kind p q → (w : Written) (r : Reply) (after : List ℕ)
-          → Puts (put (bytesOfAll (wrapped numbers)) out) w after → r ≡ answerOf Reply.Yes Reply.Refused w
-          → AnswersQuestion t kind p q out r after
-      unfolding evidenceBytes
-      ask-shows f numbers e w r after s g =
-          let b = yes-bounded t sound kind p q (askable-asked t kind p q can) (subst T (sym f) tt) in
-          let h = puts-answer Reply.Yes Reply.Refused (evidenceBytes t kind p q) out (ask-yes t kind p q out passes can f)
-          (collected numbers out b e s) g in
-          ask-answers t kind p q out r after word (h .0) (h .1)
+      pub ask-fits : FitsBuffer (handedNumbers (parentOf parent) (t .paths) R (startNo (parentOf parent) listed (t .paths) kind p q))
+      ask-fits =
+          subst₂ (λ (z : ℕ → ℕ) (l : List Rule). FitsBuffer (handedNumbers z (t .paths) R (startNo z l (t .paths) kind p q)))
+          (sym same-parents) (sym (arrays-rules t)) (words-fit t sound words-in (counter-begins .1))
 
       -- no: the counter-document was put
-      pub ask-hands : {R : ℕ → ℕ → ℕ} → ReachWords (parentsOf t) (ruleListOf t) (t .paths) R
-          → yesb (parentsOf t) (ruleListOf t) (t .paths) kind p q ≡ false → (w : Written) (r : Reply) (after : List ℕ)
-          → Puts (put (bytesOfAll (handedNumbers (parentsOf t) (t .paths) R (counterStart t kind p q))) out) w after
+      pub ask-hands : yesb (parentOf parent) listed (t .paths) kind p q ≡ false → (w : Written) (r : Reply) (after : List ℕ)
+          → Puts (put (bytesOfAll (handedNumbers (parentOf parent) (t .paths) R (startNo (parentOf parent) listed (t .paths) kind p q))) out)
+          w after
           → r ≡ answerOf Reply.No Reply.Refused w → AnswersQuestion t kind p q out r after
-      ask-hands words f w r after s g =
-          let d = subst (λ (b : List ℕ). Puts (put b out) w after) (words-bytes t sound words (counter-begins .1)) s in
+      ask-hands f w r after s g =
+          let same : bytesOfAll (handedNumbers (parentOf parent) (t .paths) R (startNo (parentOf parent) listed (t .paths) kind p q))
+              ≡ documentBytes t (counterStart t kind p q) =
+          ap₂ (λ (z : ℕ → ℕ) (l : List Rule). bytesOfAll (handedNumbers z (t .paths) R (startNo z l (t .paths) kind p q)))
+          same-parents (arrays-rules t)
+          ∙ words-bytes t sound words-in (counter-begins .1) in
+          let test = subst₂ (λ (z : ℕ → ℕ) (l : List Rule). yesb z l (t .paths) kind p q ≡ false) same-parents (arrays-rules t) f in
           let h = puts-answer Reply.No Reply.Refused (documentBytes t (counterStart t kind p q)) out
-          (ask-no t kind p q out passes can f) d g in
+          (ask-no t kind p q out passes can test) (subst (λ (b : List ℕ). Puts (put b out) w after) same s) g in
           ask-answers t kind p q out r after word (h .0) (h .1)

@@ -45,6 +45,7 @@ pub mod Sizes
 pub mod Sorted
 pub mod Soundness
 pub mod Stepping
+pub mod TableArrays
 pub mod ValidFits
 pub mod Walks
 pub mod Writes

@@ -111,7 +111,7 @@ module _ (t : Rules) (v : ValidTable t) (kind p q : ℕ) (a : Asked t kind p q) 
         absence = λ (e : kind ≡ 2). excludes-every (table-fits t v) p q (a .first) (a .second) .0 (rw e at y) .every d i o;
         along = λ (e : kind ≡ 3). together-every (table-fits t v) p q (a .first) (a .second) .0 (rw e at y) .along .every d i o;
         against = λ (e : kind ≡ 3). together-every (table-fits t v) p q (a .first) (a .second) .0 (rw e at y) .against .every d i o;
-      }
+      };
     }
 
     -- its evidence shows it

@@ -137,7 +137,7 @@ pub record DecidesConsistency (t : Rules) (out : List ℕ) (r : Consistency) (af
   -- inconsistent: no document does, and the evidence shows it
   pub inconsistent : (n : ℕ) → r ≡ Consistency.Inconsistent n
       → (Consistent (parentsOf t) (ruleListOf t) (t .paths) (rulesOf t .required) → ⊥)
-        × BringsEvidence (take n after) (ShowsInconsistent (parentsOf t) (ruleListOf t) (askedOf t))
+      × BringsEvidence (take n after) (ShowsInconsistent (parentsOf t) (ruleListOf t) (askedOf t))
   -- the length is within the buffer, and in 65,536 bytes there is room for every answer
   pub within : (n : ℕ) → (r ≡ Consistency.Consistent n) ⊎ (r ≡ Consistency.Inconsistent n) → n ≤ length out
   pub room : 65536 ≤ length out → r ≡ Consistency.Refused 20 0 → ⊥
