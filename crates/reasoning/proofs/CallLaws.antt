@@ -11,12 +11,13 @@ use Rattle.files.specs.declared.rules.Rules.{Rules}
 use Rattle.files.specs.declared.write.Written.{Written}
 use Rattle.files.specs.Number.{limit, bytesOfAll}
 use Rattle.files.specs.Rules.{parentsIn, ValidTable}
+use Rattle.files.specs.Sets.{Has}
 use Rattle.files.specs.Table.{Rule}
 use Rattle.files.specs.Writing.{tablePasses, put, wrapped, Puts}
 use Rattle.files.proofs.TableTests.{passes-valid}
 use Rattle.reasoning.specs.declared.consistency.Consistency.{Consistency}
 use Rattle.reasoning.specs.declared.question.Reply.{Reply}
-use Rattle.reasoning.specs.Arrays.{parentOf, ruleList}
+use Rattle.reasoning.specs.Arrays.{parentOf, ruleList, Sound}
 use Rattle.reasoning.specs.Calls.{
   parentsOf,
   ruleListOf,
@@ -47,8 +48,24 @@ use Rattle.reasoning.proofs.HandedQuestions.{begins-no}
 use Rattle.reasoning.proofs.Placed.{puts-answer}
 use Rattle.reasoning.proofs.QuestionJoins.{ask-invalid, ask-unasked, ask-yes, ask-no, askable-asked, yes-bounded, ask-answers}
 use Rattle.reasoning.proofs.Sizes.{numbers-few, bytes-few}
-use Rattle.reasoning.proofs.TableArrays.{arrays-rules, arrays-parents}
-use Rattle.reasoning.proofs.ValidFits.{table-fits, table-shallow}
+use Rattle.reasoning.proofs.TableArrays.{arrays-rules, arrays-parents, arrays-sound}
+use Rattle.reasoning.proofs.ValidFits.{table-fits, table-shallow, asked-in}
+
+-- the rules as the arrays have them
+abbrev arrayRules : Rules → List Rule
+arrayRules t = ruleList (t .kind) (t .left) (t .right) (t .rules)
+
+-- ---- the table that passed its test
+
+module _ (t : Rules) (word : t .required < 2 ^ 64) (passes : tablePasses t ≡ true) where
+  -- its arrays are sound
+  pub passes-sound : (parent : List ℕ) → parent ≡ parentsIn (t .parent) (t .paths)
+      → Sound parent (t .kind) (t .left) (t .right) (t .paths) (t .rules)
+  passes-sound parent lent = arrays-sound t (passes-valid t word .0 passes) parent lent
+
+  -- the paths asked for are in the table
+  pub passes-asked : (x : ℕ) → Has (askedOf t) x → x < t .paths
+  passes-asked = asked-in t word (passes-valid t word .0 passes)
 
 -- ---- the document's and the evidence's numbers
 
@@ -99,14 +116,10 @@ module _ (t : Rules) (out : List ℕ) (word : t .required < 2 ^ 64) where
     valid : ValidTable t
     valid = passes-valid t word .0 passes
 
-    -- the rules as the arrays have them
-    abbrev many : List Rule
-    many = ruleList (t .kind) (t .left) (t .right) (t .rules)
-
     parents-same : parentOf parent ≡ parentsOf t
     parents-same = arrays-parents t valid parent lent
 
-    module _ {R : ℕ → ℕ → ℕ} (words : ReachWords (parentOf parent) (ruleList (t .kind) (t .left) (t .right) (t .rules)) (t .paths) R) where
+    module _ {R : ℕ → ℕ → ℕ} (words : ReachWords (parentOf parent) (arrayRules t) (t .paths) R) where
       words-of : ReachWords (parentsOf t) (ruleListOf t) (t .paths) R
       words-of = subst₂ (λ (p : ℕ → ℕ) (l : List Rule). ReachWords p l (t .paths) R) parents-same (arrays-rules t) words
 
@@ -117,7 +130,7 @@ module _ (t : Rules) (out : List ℕ) (word : t .required < 2 ^ 64) where
           (words-fit t valid words-of (asked-begins t word valid))
 
       -- consistent: the document was put
-      pub consistency-hands : consistentb (parentOf parent) many (t .paths) (askedOf t) ≡ true
+      pub consistency-hands : consistentb (parentOf parent) (arrayRules t) (t .paths) (askedOf t) ≡ true
           → (w : Written) (r : Consistency) (after : List ℕ)
           → Puts (put (bytesOfAll (handedNumbers (parentOf parent) (t .paths) R (startConsistency (askedOf t)))) out) w after
           → r ≡ answerOf Consistency.Consistent Consistency.Refused w → DecidesConsistency t out r after
@@ -132,8 +145,8 @@ module _ (t : Rules) (out : List ℕ) (word : t .required < 2 ^ 64) where
           consistency-decides t out r after word (h .0) (h .1)
 
     -- inconsistent: the evidence was put
-    pub consistency-shows : consistentb (parentOf parent) many (t .paths) (askedOf t) ≡ false → (numbers : List ℕ)
-        → numbers ≡ inconsistentNumbers (parentOf parent) many (t .paths) (askedOf t)
+    pub consistency-shows : consistentb (parentOf parent) (arrayRules t) (t .paths) (askedOf t) ≡ false → (numbers : List ℕ)
+        → numbers ≡ inconsistentNumbers (parentOf parent) (arrayRules t) (t .paths) (askedOf t)
         → (w : Written) (r : Consistency) (after : List ℕ) → Puts (put (bytesOfAll (wrapped numbers)) out) w after
         → r ≡ answerOf Consistency.Inconsistent Consistency.Refused w → DecidesConsistency t out r after
     unfolding inconsistentBytes
@@ -167,10 +180,6 @@ module _ (t : Rules) (kind p q : ℕ) (out : List ℕ) (word : t .required < 2 ^
     sound : ValidTable t
     sound = passes-valid t word .0 passes
 
-    -- the rules as the arrays have them
-    abbrev listed : List Rule
-    listed = ruleList (t .kind) (t .left) (t .right) (t .rules)
-
     same-parents : parentOf parent ≡ parentsOf t
     same-parents = arrays-parents t sound parent lent
 
@@ -180,8 +189,8 @@ module _ (t : Rules) (kind p q : ℕ) (out : List ℕ) (word : t .required < 2 ^
         begins-no (table-fits t sound) kind p q (a .first) (a .second)
 
     -- yes: the evidence was put
-    pub ask-shows : yesb (parentOf parent) listed (t .paths) kind p q ≡ true → (numbers : List ℕ)
-        → numbers ≡ evidenceNumbers (parentOf parent) listed (t .paths) kind p q → (w : Written) (r : Reply) (after : List ℕ)
+    pub ask-shows : yesb (parentOf parent) (arrayRules t) (t .paths) kind p q ≡ true → (numbers : List ℕ)
+        → numbers ≡ evidenceNumbers (parentOf parent) (arrayRules t) (t .paths) kind p q → (w : Written) (r : Reply) (after : List ℕ)
         → Puts (put (bytesOfAll (wrapped numbers)) out) w after → r ≡ answerOf Reply.Yes Reply.Refused w
         → AnswersQuestion t kind p q out r after
     unfolding evidenceBytes
@@ -193,23 +202,23 @@ module _ (t : Rules) (kind p q : ℕ) (out : List ℕ) (word : t .required < 2 ^
         (collected numbers out b are s) g in
         ask-answers t kind p q out r after word (h .0) (h .1)
 
-    module _ {R : ℕ → ℕ → ℕ} (words : ReachWords (parentOf parent) (ruleList (t .kind) (t .left) (t .right) (t .rules)) (t .paths) R) where
+    module _ {R : ℕ → ℕ → ℕ} (words : ReachWords (parentOf parent) (arrayRules t) (t .paths) R) where
       words-in : ReachWords (parentsOf t) (ruleListOf t) (t .paths) R
       words-in = subst₂ (λ (z : ℕ → ℕ) (l : List Rule). ReachWords z l (t .paths) R) same-parents (arrays-rules t) words
 
       -- the counter-document to be written is short enough
-      pub ask-fits : FitsBuffer (handedNumbers (parentOf parent) (t .paths) R (startNo (parentOf parent) listed (t .paths) kind p q))
+      pub ask-fits : FitsBuffer (handedNumbers (parentOf parent) (t .paths) R (startNo (parentOf parent) (arrayRules t) (t .paths) kind p q))
       ask-fits =
           subst₂ (λ (z : ℕ → ℕ) (l : List Rule). FitsBuffer (handedNumbers z (t .paths) R (startNo z l (t .paths) kind p q)))
           (sym same-parents) (sym (arrays-rules t)) (words-fit t sound words-in (counter-begins .1))
 
       -- no: the counter-document was put
-      pub ask-hands : yesb (parentOf parent) listed (t .paths) kind p q ≡ false → (w : Written) (r : Reply) (after : List ℕ)
-          → Puts (put (bytesOfAll (handedNumbers (parentOf parent) (t .paths) R (startNo (parentOf parent) listed (t .paths) kind p q))) out)
+      pub ask-hands : yesb (parentOf parent) (arrayRules t) (t .paths) kind p q ≡ false → (w : Written) (r : Reply) (after : List ℕ)
+          → Puts (put (bytesOfAll (handedNumbers (parentOf parent) (t .paths) R (startNo (parentOf parent) (arrayRules t) (t .paths) kind p q))) out)
           w after
           → r ≡ answerOf Reply.No Reply.Refused w → AnswersQuestion t kind p q out r after
       ask-hands f w r after s g =
-          let same : bytesOfAll (handedNumbers (parentOf parent) (t .paths) R (startNo (parentOf parent) listed (t .paths) kind p q))
+          let same : bytesOfAll (handedNumbers (parentOf parent) (t .paths) R (startNo (parentOf parent) (arrayRules t) (t .paths) kind p q))
               ≡ documentBytes t (counterStart t kind p q) =
           ap₂ (λ (z : ℕ → ℕ) (l : List Rule). bytesOfAll (handedNumbers z (t .paths) R (startNo z l (t .paths) kind p q)))
           same-parents (arrays-rules t)
