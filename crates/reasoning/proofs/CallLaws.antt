@@ -55,6 +55,10 @@ use Rattle.reasoning.proofs.ValidFits.{table-fits, table-shallow, asked
 abbrev arrayRules : Rules → List Rule
 arrayRules t = ruleList (t .kind) (t .left) (t .right) (t .rules)
 
+-- what a counter-document begins with, by the arrays
+abbrev arrayStart : (t : Rules) (parent : List ℕ) (kind p q : ℕ) → Start
+arrayStart t parent = startNo (parentOf parent) (arrayRules t) (t .paths)
+
 -- ---- the table that passed its test
 
 module _ (t : Rules) (word : t .required < 2 ^ 64) (passes : tablePasses t ≡ true) where
@@ -136,10 +140,11 @@ module _ (t : Rules) (out : List ℕ) (word : t .required < 2 ^ 64) where
           → r ≡ answerOf Consistency.Consistent Consistency.Refused w → DecidesConsistency t out r after
       consistency-hands f w r after p g =
           let same : bytesOfAll (handedNumbers (parentOf parent) (t .paths) R (startConsistency (askedOf t)))
-              ≡ documentBytes t (startConsistency (askedOf t)) =
+          ≡ documentBytes t (startConsistency (askedOf t)) =
           ap (λ (z : ℕ → ℕ). bytesOfAll (handedNumbers z (t .paths) R (startConsistency (askedOf t)))) parents-same
           ∙ words-bytes t valid words-of (asked-begins t word valid) in
-          let test = subst₂ (λ (z : ℕ → ℕ) (l : List Rule). consistentb z l (t .paths) (askedOf t) ≡ true) parents-same (arrays-rules t) f in
+          let test =
+          subst₂ (λ (z : ℕ → ℕ) (l : List Rule). consistentb z l (t .paths) (askedOf t) ≡ true) parents-same (arrays-rules t) f in
           let h = puts-answer Consistency.Consistent Consistency.Refused (documentBytes t (startConsistency (askedOf t))) out
           (consistency-agrees t out passes test) (subst (λ (b : List ℕ). Puts (put b out) w after) same p) g in
           consistency-decides t out r after word (h .0) (h .1)
@@ -207,19 +212,19 @@ module _ (t : Rules) (kind p q : ℕ) (out : List ℕ) (word : t .required < 2 ^
       words-in = subst₂ (λ (z : ℕ → ℕ) (l : List Rule). ReachWords z l (t .paths) R) same-parents (arrays-rules t) words
 
       -- the counter-document to be written is short enough
-      pub ask-fits : FitsBuffer (handedNumbers (parentOf parent) (t .paths) R (startNo (parentOf parent) (arrayRules t) (t .paths) kind p q))
+      pub ask-fits : FitsBuffer (handedNumbers (parentOf parent) (t .paths) R (arrayStart t parent kind p q))
       ask-fits =
           subst₂ (λ (z : ℕ → ℕ) (l : List Rule). FitsBuffer (handedNumbers z (t .paths) R (startNo z l (t .paths) kind p q)))
           (sym same-parents) (sym (arrays-rules t)) (words-fit t sound words-in (counter-begins .1))
 
       -- no: the counter-document was put
       pub ask-hands : yesb (parentOf parent) (arrayRules t) (t .paths) kind p q ≡ false → (w : Written) (r : Reply) (after : List ℕ)
-          → Puts (put (bytesOfAll (handedNumbers (parentOf parent) (t .paths) R (startNo (parentOf parent) (arrayRules t) (t .paths) kind p q))) out)
+          → Puts (put (bytesOfAll (handedNumbers (parentOf parent) (t .paths) R (arrayStart t parent kind p q))) out)
           w after
           → r ≡ answerOf Reply.No Reply.Refused w → AnswersQuestion t kind p q out r after
       ask-hands f w r after s g =
-          let same : bytesOfAll (handedNumbers (parentOf parent) (t .paths) R (startNo (parentOf parent) (arrayRules t) (t .paths) kind p q))
-              ≡ documentBytes t (counterStart t kind p q) =
+          let same : bytesOfAll (handedNumbers (parentOf parent) (t .paths) R (arrayStart t parent kind p q))
+          ≡ documentBytes t (counterStart t kind p q) =
           ap₂ (λ (z : ℕ → ℕ) (l : List Rule). bytesOfAll (handedNumbers z (t .paths) R (startNo z l (t .paths) kind p q)))
           same-parents (arrays-rules t)
           ∙ words-bytes t sound words-in (counter-begins .1) in

@@ -33,8 +33,8 @@ use Rattle.reasoning.proofs.Answers.{consistent-some}
 use Rattle.reasoning.proofs.EvidenceSize.{inconsistent-bounded}
 use Rattle.reasoning.proofs.HandedRows.{Begins}
 use Rattle.reasoning.proofs.HandedDocuments.{begins-consistency, consistency-document}
-use Rattle.reasoning.proofs.HandsBack.{hands-back, document-room, bounded-bytes}
 use Rattle.reasoning.proofs.Placed.{Placed, fills, tooLong, placed-at}
+use Rattle.reasoning.proofs.ReadBack.{hands-back, document-room, bounded-bytes}
 use Rattle.reasoning.proofs.Shows.{inconsistent-shows}
 use Rattle.reasoning.proofs.ValidFits.{table-fits, table-shallow, required-in, required-inner, asked-is, asked-in}
 use Rattle.reasoning.proofs.Writes.{inconsistent-written}

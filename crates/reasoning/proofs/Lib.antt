@@ -27,7 +27,6 @@ pub mod HandedQuestions
 pub mod HandedRows
 pub mod HandedTree
 pub mod HandedWords
-pub mod HandsBack
 pub mod Kids
 pub mod Least
 pub mod Meaning
@@ -38,6 +37,7 @@ pub mod Pairs
 pub mod Placed
 pub mod QuestionJoins
 pub mod Reachable
+pub mod ReadBack
 pub mod RootPair
 pub mod Search
 pub mod Shows

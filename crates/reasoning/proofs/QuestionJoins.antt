@@ -37,8 +37,8 @@ use Rattle.reasoning.specs.Evidence.{yesb, evidenceNumbers, Shows, Bound
 use Rattle.reasoning.proofs.Answers.{implies-every, excludes-every, together-every}
 use Rattle.reasoning.proofs.EvidenceSize.{evidence-bounded}
 use Rattle.reasoning.proofs.HandedQuestions.{begins-no, question-document}
-use Rattle.reasoning.proofs.HandsBack.{hands-back, document-room, bounded-bytes}
 use Rattle.reasoning.proofs.Placed.{Placed, fills, tooLong, placed-at}
+use Rattle.reasoning.proofs.ReadBack.{hands-back, document-room, bounded-bytes}
 use Rattle.reasoning.proofs.Shows.{yes-shows}
 use Rattle.reasoning.proofs.ValidFits.{table-fits, table-shallow}
 use Rattle.reasoning.proofs.Writes.{evidence-written}
