@@ -250,5 +250,3 @@ module _ (s path place : List ℕ) (count : ℕ) where
   pub linked-held : (sets first next : List ℕ) → Linked s path place count 0 sets first next → (n : ℕ) → n < count → getD sets n 0 ≡ heldOf n
   unfolding heldOf
   linked-held sets first next linked n h = linked .held n (omega arith) h
-
-pub ruleset link-laws = (link-start, link-more, link-end)
