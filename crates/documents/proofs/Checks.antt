@@ -1,16 +1,15 @@
 -- Laws of checking a document as a whole: refusal 12, then 14, then the file's, then the verdict.
-use Prim.Native.Nat.{ℕ, zero, suc, _+_, _-_, _%_, _^_, _<_, _≤_}
+use Prim.Native.Nat.{ℕ, zero, suc, _+_, _%_, _<_, _≤_}
 use mathlib.Core.Path.{_≡_, refl, sym, ap, ap₂, subst, _∙_}
 use mathlib.Core.Bool.{Bool, true, false, not}
-use mathlib.Core.List.{List, [], _∷_, List·Memᴰ}
+use mathlib.Core.List.{List, List·Memᴰ}
 use native.Mathlib.Omega.{arith}
 use lib.ListN.{length, getD}
 use borrow.Author.Tests.{lt-ltb, le-ltb, not-true, not-false}
 use Rattle.files.specs.declared.rules.Rules.{Rules}
-use Rattle.files.specs.Number.{Bytes}
 use Rattle.files.specs.Format.{Outcome, got, refused, runAll}
 use Rattle.files.specs.Rules.{rulesOf}
-use Rattle.files.specs.Table.{Rule, parentIn}
+use Rattle.files.specs.Table.{parentIn}
 use Rattle.files.specs.Writing.{tablePasses}
 use Rattle.documents.specs.declared.check.Checked.{Checked}
 use Rattle.documents.specs.declared.check.Checked.the-variants.{Refused}

@@ -1,12 +1,12 @@
 -- The set of a part in a valid list is what the part holds.
 use Prim.Native.Nat.{ℕ, zero, suc, _+_, _-_, _<_, _≤_}
-use mathlib.Core.Path.{_≡_, refl, sym, ap, ap₂, subst, _∙_}
-use mathlib.Core.Logic.{_↔_, _⊎_, inl, inr, ⊎-elim}
+use mathlib.Core.Path.{_≡_, refl, sym, ap, subst, _∙_}
+use mathlib.Core.Logic.{_↔_, inl, inr, ⊎-elim}
 use mathlib.Core.List.{List, [], _∷_, List·Memᴰ, List·Memᴰ·head, List·Memᴰ·tail}
 use native.Mathlib.Omega.{arith}
 use lib.ListN.{length, getD, drop}
 use lib.Seq.{getD-drop}
-use Rattle.files.specs.Sets.{Has, withPath, union}
+use Rattle.files.specs.Sets.{Has, withPath}
 use Rattle.files.proofs.SetBits.{bit-of-zero, not-has, has-union, has-with}
 use Rattle.documents.specs.Parts.{PartHolds, own, kid}
 use Rattle.documents.specs.PartList.{Entry, entryPath, entryKids, ValidParts}

@@ -1,9 +1,8 @@
 -- Laws of the pass from the last part to the first: what each part holds, and the parts on each path in ascending order.
-use Prim.Native.Nat.{ℕ, zero, suc, max, _+_, _-_, _*_, _%_, _^_, _<_, _≤_}
+use Prim.Native.Nat.{ℕ, zero, suc, _+_, _-_, _%_, _^_, _<_, _≤_}
 use mathlib.Core.Path.{_≡_, refl, sym, ap, ap₂, subst, _∙_}
-use mathlib.Core.Logic.{⊎-elim}
 use mathlib.Core.List.{List, [], _∷_, List·Memᴰ, List·Memᴰ·head, List·Memᴰ·tail}
-use native.Mathlib.Decide.{decLt, ℕ-discrete}
+use native.Mathlib.Decide.{ℕ-discrete}
 use native.Mathlib.Nat.{pow-suc}
 use native.Mathlib.Omega.{arith}
 use lib.ListN.{length, getD, set, drop, replicate, length-set, getD-replicate}
@@ -14,7 +13,7 @@ use borrow.Author.Tests.{lt-ltb, le-ltb, eq-eqb, ne-eqb}
 use Rattle.files.specs.declared.number.Number.{Number}
 use Rattle.files.specs.declared.number.Number.the-variants.{Is, Refused}
 use Rattle.files.specs.Number.{numberIn}
-use Rattle.files.specs.Sets.{bit, union, withPath}
+use Rattle.files.specs.Sets.{union, withPath}
 use Rattle.files.proofs.Numbers.{place-fits}
 use Rattle.files.proofs.SetBits.{bit-union, same-bits}
 use Rattle.documents.specs.PartList.{Entry}

@@ -1,19 +1,19 @@
 -- Laws of judging: along the parts on a rule's context, rule after rule, and the verdict.
 use Prim.Native.Nat.{ℕ, zero, suc, _+_, _-_, _<_, _≤_}
-use mathlib.Core.Path.{_≡_, refl, sym, ap, ap₂, subst, _∙_}
+use mathlib.Core.Path.{_≡_, refl, sym, ap, ap₂, _∙_}
 use mathlib.Core.Bool.{Bool, true, false, cond, not}
 use mathlib.Core.List.{List, [], _∷_}
-use native.Mathlib.Decide.{decLt, ℕ-discrete}
+use native.Mathlib.Decide.{decLt}
 use native.Mathlib.Omega.{arith}
-use lib.ListN.{length, getD}
+use lib.ListN.{getD}
 use lib.Dec.{ltb, eqb}
-use borrow.Author.Tests.{lt-ltb, le-ltb, eq-eqb, ne-eqb, ltb-true, ltb-false, eqb-true, eqb-false}
+use borrow.Author.Tests.{lt-ltb, le-ltb, eq-eqb, ne-eqb, eqb-true}
 use Rattle.files.specs.declared.rules.Rules.{Rules}
 use Rattle.files.specs.Rules.{rulesFrom, rulesOf}
 use Rattle.files.specs.Sets.{hasb, difference, lowest, UpTo64}
 use Rattle.files.specs.Table.{Rule}
 use Rattle.documents.specs.declared.check.Checked.{Checked}
-use Rattle.documents.specs.declared.check.Checked.the-variants.{Obeys, Broken, Missing, Refused}
+use Rattle.documents.specs.declared.check.Checked.the-variants.{Obeys, Broken, Missing}
 use Rattle.documents.specs.declared.check.Place.{Place}
 use Rattle.documents.specs.declared.check.Place.the-variants.{At, Nowhere}
 use Rattle.documents.specs.declared.check.Break.{Break}

@@ -4,7 +4,7 @@ use mathlib.Core.Path.{_≡_, refl, sym, ap, ap₂, subst, _∙_}
 use mathlib.Core.Bool.{Bool, true, false, cond}
 use mathlib.Core.List.{List, [], _∷_, _++_}
 use native.Mathlib.Omega.{arith}
-use lib.ListN.{length, getD, set, drop, replicate, length-set, length-append}
+use lib.ListN.{length, getD, set, drop, replicate, length-set}
 use lib.Seq.{getD-set-same, getD-set-other}
 use lib.Dec.{ltb}
 use borrow.Author.Tests.{lt-ltb, le-ltb}
@@ -18,7 +18,7 @@ use Rattle.files.specs.RuleFile.{between}
 use Rattle.files.specs.Reading.{tested}
 use Rattle.files.proofs.Formats.{onward, run-then, list-many}
 use Rattle.files.proofs.Padded.{zeros-get}
-use Rattle.files.proofs.ReaderRules.{run-refused, run-taken, tested-fits, between-taken, add-snoc}
+use Rattle.files.proofs.ReaderRules.{run-refused, run-taken, between-taken, add-snoc}
 use Rattle.documents.specs.declared.document.Section.{Section}
 use Rattle.documents.specs.declared.document.OnePart.{OnePart}
 use Rattle.documents.specs.declared.document.Listed.{Listed}

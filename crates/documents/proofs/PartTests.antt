@@ -6,16 +6,16 @@ use mathlib.Core.Bool.{Bool, true, false, cond, false≢true}
 use mathlib.Core.List.{List, [], _∷_, List·Memᴰ, List·Memᴰ·head, List·Memᴰ·tail, List·Memᴰ·not-nil, List·Memᴰ·cases-cons}
 use native.Mathlib.Decide.{decLt, ℕ-discrete}
 use native.Mathlib.Omega.{arith}
-use lib.ListN.{length, getD}
+use lib.ListN.{length}
 use lib.Dec.{eqb}
 use borrow.Author.Tests.{lt-ltb, eq-eqb, ne-eqb, eqb-true}
 use Rattle.files.specs.Rules.{addAll}
-use Rattle.files.specs.Sets.{Has, bit, withPath}
+use Rattle.files.specs.Sets.{Has, withPath}
 use Rattle.files.specs.RuleFile.{between}
 use Rattle.files.proofs.Rows.{Row, row-between}
-use Rattle.files.proofs.SetBits.{bit-of-zero, bit-pow-same, bit-pow-other, bit-cases, not-has, with-old, has-with}
+use Rattle.files.proofs.SetBits.{bit-of-zero, bit-pow-same, bit-pow-other, not-has, with-old, has-with}
 use Rattle.documents.specs.PartList.{Entry, listed, namers, entryPath, entryKids, Namer, namedTest, pathTest}
-use Rattle.documents.proofs.PartReader.{with-zero, named-none, named-root, path-zero, path-root, path-far}
+use Rattle.documents.proofs.PartReader.{with-zero, named-none, named-root, named-good, named-else, path-zero, path-root, path-far}
 
 -- 15: part count 0 or above 512
 pub row-15 : (n : ℕ) → Row 15 (between 1 513 15 n) ((n ≡ 0) ⊎ (512 < n))
@@ -159,16 +159,6 @@ members (x ∷ xs) = member x (List·Memᴰ·head refl)
 pub record NamerElsewhere (es : List Entry) (k q : ℕ) : Type 0 where
   pub by : Namer es k
   pub other : entryPath es (by .part) ≢ q
-
--- the test of a namer's path, by the set
-module _ (parent : ℕ → ℕ) (set p : ℕ) (some : set ≢ 0) (inner : p ≢ 0) where
-  named-good : set ≡ 2 ^ parent p → 0 ≡ namedTest parent set p
-  unfolding namedTest
-  named-good e = rw (ne-eqb set 0 some, ne-eqb p 0 inner, eq-eqb set (2 ^ parent p) e)
-
-  named-else : set ≢ 2 ^ parent p → 18 ≡ namedTest parent set p
-  unfolding namedTest
-  named-else e = rw (ne-eqb set 0 some, ne-eqb p 0 inner, ne-eqb set (2 ^ parent p) e)
 
 -- all namers of part k are on path q
 pub record NamersOn (es : List Entry) (k q : ℕ) : Type 0 where

@@ -1,13 +1,13 @@
 -- A valid part list stands for exactly one document of the table, in which every part has a copy.
-use Prim.Native.Nat.{ℕ, zero, suc, _-_, _<_, _≤_}
-use mathlib.Core.Path.{_≡_, refl, sym, subst}
+use Prim.Native.Nat.{ℕ, zero, suc, _-_, _<_}
+use mathlib.Core.Path.{_≡_}
 use mathlib.Core.List.{List, [], _∷_, List·Memᴰ, List·Memᴰ·head, List·Memᴰ·eq-of-singleton}
 use native.Mathlib.Decide.{ℕ-discrete}
 use native.Mathlib.Omega.{arith}
 use lib.ListN.{length}
 use Rattle.files.proofs.TableTests.{ascending-from}
 use Rattle.documents.specs.Tree.{Forest, Document}
-use Rattle.documents.specs.Parts.{Named, given, further, Falls, MayStand, Fits}
+use Rattle.documents.specs.Parts.{Named, given, further, Falls, Fits}
 use Rattle.documents.specs.PartList.{Entry, entryPath, entryKids, ValidParts, StandsFor}
 use Rattle.documents.proofs.Parts.{unfolds-unique, unfolds-document, list-unfolds}
 

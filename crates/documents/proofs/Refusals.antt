@@ -1,6 +1,6 @@
 -- The refusals that a document's bytes can meet: 1, 2, 11 and 15 to 19. So 12 and 14 are given exactly by their own rows.
 use Prim.Native.Nat.{ℕ, zero, suc, _+_, _<_, _≤_}
-use mathlib.Core.Path.{_≡_, refl, sym, _∙_}
+use mathlib.Core.Path.{_≡_, refl, sym}
 use mathlib.Core.Logic.{_↔_, _⊎_, inl, inr}
 use mathlib.Core.Bool.{Bool, true, false, cond}
 use mathlib.Core.List.{List, [], _∷_, _++_}
@@ -9,7 +9,7 @@ use lib.ListN.{length}
 use lib.Dec.{ltb, leb, eqb}
 use Rattle.files.specs.declared.rules.Rules.{Rules}
 use Rattle.files.specs.Format.{Format, done, want, andThen, Leads, here, take, Stops, cut, long, own, left, RefusedAt}
-use Rattle.files.specs.RuleFile.{between, any}
+use Rattle.files.specs.RuleFile.{between}
 use Rattle.files.specs.Rules.{ValidTable}
 use Rattle.documents.specs.declared.check.Checked.{Checked}
 use Rattle.documents.specs.PartList.{Entry, namedTest, pathTest, moreKids, kidsOn, partAt, onePart, moreParts, documentFile}

@@ -1,17 +1,17 @@
 -- Judging by sets finds the least broken rule and the least part that breaks it.
-use Prim.Native.Nat.{ℕ, zero, suc, _+_, _-_, _<_, _≤_}
-use mathlib.Core.Path.{_≡_, refl, sym, ap, subst, subst₂, _∙_}
-use mathlib.Core.Logic.{_↔_, _⊎_, inl, inr, ⊎-elim}
+use Prim.Native.Nat.{ℕ, zero, suc, _+_, _<_, _≤_}
+use mathlib.Core.Path.{_≡_, refl, sym, subst, subst₂, _∙_}
+use mathlib.Core.Logic.{_↔_, inl, inr}
 use mathlib.Core.Bool.{Bool, true, false, cond, not, false≢true}
-use mathlib.Core.List.{List, [], _∷_, map}
-use native.Mathlib.Decide.{decLt, ℕ-discrete}
+use mathlib.Core.List.{List, [], _∷_}
+use native.Mathlib.Decide.{ℕ-discrete}
 use native.Mathlib.Omega.{arith}
 use lib.ListN.{length, getD}
 use lib.Dec.{eqb}
-use borrow.Author.Tests.{eq-eqb, ne-eqb, eqb-true, eqb-false}
+use borrow.Author.Tests.{eq-eqb, ne-eqb, eqb-true}
 use Rattle.files.specs.Sets.{Has, hasb}
 use Rattle.files.specs.Table.{Rule, Numbered, first, later}
-use Rattle.files.proofs.SetBits.{hasb-true, hasb-has, decHas}
+use Rattle.files.proofs.SetBits.{hasb-true, hasb-has}
 use Rattle.documents.specs.declared.check.Place.{Place}
 use Rattle.documents.specs.declared.check.Place.the-variants.{At, Nowhere}
 use Rattle.documents.specs.declared.check.Break.{Break}

@@ -1,22 +1,20 @@
 -- Judging the parts of a valid list by their sets is judging the document that the list stands for.
-use Prim.Native.Nat.{ℕ, _-_, _^_, _<_, _≤_}
-use mathlib.Core.Path.{_≡_, refl, sym, ap, subst, _∙_}
+use Prim.Native.Nat.{ℕ, _^_, _<_, _≤_}
+use mathlib.Core.Path.{_≡_, sym, subst, _∙_}
 use mathlib.Core.Logic.{_↔_, _⊎_, inl, inr, ⊎-elim}
-use mathlib.Core.Bool.{Bool, true, false, cond}
 use mathlib.Core.List.{List, [], _∷_, List·Memᴰ}
 use native.Mathlib.Decide.{decLt, ℕ-discrete}
 use native.Mathlib.Omega.{arith}
 use lib.ListN.{length, getD}
-use lib.Dec.{eqb}
 use Rattle.files.specs.Sets.{Has, bit, difference, lowest, members}
-use Rattle.files.specs.Table.{Rule, Numbered}
+use Rattle.files.specs.Table.{Rule}
 use Rattle.files.proofs.SetBits.{bit-of-zero, bit-absent, bit-cases, not-has, decHas, has-difference, difference-lt}
 use Rattle.files.proofs.SetLowest.{has-lowest, lowest-first}
 use Rattle.files.proofs.SetMembers.{mem-members}
-use Rattle.documents.specs.Paths.{Context, Descending, contextOf}
+use Rattle.documents.specs.Paths.{Context, Descending}
 use Rattle.documents.specs.Tree.{Forest, Node, NodeHolds, Holds}
-use Rattle.documents.specs.Obey.{Implication, Absence, ObeysRule, Obeys, HoldsAll}
-use Rattle.documents.specs.Parts.{Unfolds, PartHolds, Named, PartsImplication, PartsObeyRule}
+use Rattle.documents.specs.Obey.{ObeysRule, HoldsAll}
+use Rattle.documents.specs.Parts.{Unfolds, PartHolds, Named, PartsImplication}
 use Rattle.documents.specs.PartList.{Entry, entryPath, entryKids, ValidParts, StandsFor}
 use Rattle.documents.specs.Checking.{breaks, held}
 use Rattle.documents.specs.Judgement.{Violates, without, against, both, PartBreaks, LeastMissing}
@@ -24,7 +22,7 @@ use Rattle.documents.proofs.Paths.{context-is, context-sym, contextOf-c
 use Rattle.documents.proofs.Parts.{named-copy, copy-holds, one-holds, parts-rule}
 use Rattle.documents.proofs.PartTrees.{named-listed, all-named}
 use Rattle.documents.proofs.HeldWords.{held-is}
-use Rattle.documents.proofs.RuleBreaks.{violates-map, breaks-only, breaks-if, Hit, HitBy}
+use Rattle.documents.proofs.RuleBreaks.{violates-map, breaks-only, breaks-if, HitBy}
 
 -- a document that obeys a rule has no node on the context that breaks it
 obeyed : {parent : ℕ → ℕ} → Descending parent → {ru : Rule} {d : Forest} → ObeysRule parent ru d → {c : ℕ} {under : Forest} → Context parent (ru .left) (ru .right) c

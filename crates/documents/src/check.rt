@@ -36,13 +36,13 @@ pub enum Checked {
 }
 
 // Where among the parts something stands: its number, or nowhere.
-pub enum Place {
+enum Place {
     At(usize),
     Nowhere,
 }
 
 // The least broken rule and the least part that breaks it.
-pub enum Break {
+enum Break {
     Broken(usize, usize),
     Unbroken,
 }

@@ -20,19 +20,19 @@ use files::sets::with;
 use crate::context::parent_of;
 
 // The place after a section, or its refusal.
-pub enum Section {
+enum Section {
     Read(usize),
     Refused(u8, usize),
 }
 
 // One part: its path, where its child count stands and the place after it.
-pub enum OnePart {
+enum OnePart {
     Is(u8, usize, usize),
     Refused(u8, usize),
 }
 
 // How many parts a document has, or its refusal.
-pub enum Listed {
+pub(crate) enum Listed {
     Parts(usize),
     Refused(u8, usize),
 }
