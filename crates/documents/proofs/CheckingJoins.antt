@@ -30,7 +30,16 @@ use Rattle.documents.proofs.ValidLists.{read-valid, valid-read}
 use Rattle.documents.proofs.PartTrees.{stands}
 use Rattle.documents.proofs.HeldWords.{held-length}
 use Rattle.documents.proofs.RuleBreaks.{HitBy, RuleSearch, broken as found, unbroken, rule-search}
-use Rattle.documents.proofs.TreeBreaks.{hit-part, part-hit, part-broken, rule-obeyed, all-held, none-missing, least-missing, missing-is}
+use Rattle.documents.proofs.TreeBreaks.{
+  hit-part,
+  part-hit,
+  part-broken,
+  rule-obeyed,
+  all-held,
+  none-missing,
+  least-missing,
+  missing-is,
+}
 
 -- two rules of one number are the same
 numbered-same : {rules : List Rule} {r : ℕ} {ru q : Rule} → Numbered rules r ru → Numbered rules r q → ru ≡ q
@@ -90,9 +99,10 @@ module _ (t : Rules) (fits : t .required < 2 ^ 64) (s : List ℕ) where
     searched = rule-search (parentOf t) es (held es) sets-long 0 (rulesOf t .rules)
 
     -- where no part breaks any rule by its set, the document obeys
-    obeys-all : ((r : ℕ) (q : Rule) → Numbered (rulesOf t .rules) r q → (j : ℕ) → ¬ HitBy (parentOf t) es (held es) q j) → Obeys (parentOf t) (rulesOf t .rules) d
+    obeys-all : ((r : ℕ) (q : Rule) → Numbered (rulesOf t .rules) r q → (j : ℕ) → ¬ HitBy (parentOf t) es (held es) q j)
+        → Obeys (parentOf t) (rulesOf t .rules) d
     obeys-all none = record {
-      each = λ r q n. rule-obeyed (descending t valid) (few-paths t valid) (reads .parts) (reads .tree) q (none r q n)
+      each = λ r q n. rule-obeyed (descending t valid) (few-paths t valid) (reads .parts) (reads .tree) q (none r q n);
     }
 
     no-hit : (q : Rule) → ObeysRule (parentOf t) q d → (j : ℕ) → HitBy (parentOf t) es (held es) q j → 1 ≤ q .kind → q .kind ≤ 3 → ⊥
@@ -100,7 +110,8 @@ module _ (t : Rules) (fits : t .required < 2 ^ 64) (s : List ℕ) where
         part-broken (descending t valid) (few-paths t valid) (reads .parts) (reads .tree) q j
         (hit-part (descending t valid) (few-paths t valid) (reads .parts) (reads .tree) q j some few h) o
 
-    hit-breaks : {k : ℕ} (q : Rule) → Numbered (rulesOf t .rules) k q → (i : ℕ) → HitBy (parentOf t) es (held es) q i → PartBreaks (parentOf t) q es d i
+    hit-breaks : {k : ℕ} (q : Rule) → Numbered (rulesOf t .rules) k q → (i : ℕ) → HitBy (parentOf t) es (held es) q i
+        → PartBreaks (parentOf t) q es d i
     hit-breaks {k} q n i h =
         let b = valid .valid .kind k q n in
         hit-part (descending t valid) (few-paths t valid) (reads .parts) (reads .tree) q i (b .0) (b .1) h
@@ -108,7 +119,8 @@ module _ (t : Rules) (fits : t .required < 2 ^ 64) (s : List ℕ) where
     breaks-hit : (q : Rule) (i : ℕ) → PartBreaks (parentOf t) q es d i → HitBy (parentOf t) es (held es) q i
     breaks-hit = part-hit (descending t valid) (few-paths t valid) (reads .parts) (reads .tree)
 
-    least : (k i : ℕ) (ru : Rule) → Numbered (rulesOf t .rules) k ru → HitBy (parentOf t) es (held es) ru i → ((j : ℕ) → j < i → ¬ HitBy (parentOf t) es (held es) ru j)
+    least : (k i : ℕ) (ru : Rule) → Numbered (rulesOf t .rules) k ru → HitBy (parentOf t) es (held es) ru i
+        → ((j : ℕ) → j < i → ¬ HitBy (parentOf t) es (held es) ru j)
         → ((r : ℕ) (q : Rule) → r < k → Numbered (rulesOf t .rules) r q → (j : ℕ) → ¬ HitBy (parentOf t) es (held es) q j)
         → LeastBreak (parentOf t) (rulesOf t .rules) es d k i
     least k i ru n h before earlier =
@@ -139,7 +151,8 @@ module _ (t : Rules) (fits : t .required < 2 ^ 64) (s : List ℕ) where
     unfolding verdictOn verdict orMissing
     parts-judged = by searched
       where
-        by : {b : Break} → RuleSearch (parentOf t) es (held es) 0 (rulesOf t .rules) b → Judged t s (verdict (t .required) (getD (held es) 0 0) b)
+        by : {b : Break} → RuleSearch (parentOf t) es (held es) 0 (rulesOf t .rules) b
+            → Judged t s (verdict (t .required) (getD (held es) 0 0) b)
         by (found k i ru n h before earlier) =
             let z : k ≡ 0 + k = omega arith in
             subst (λ (x : ℕ). Judged t s (Checked.Broken x i)) z (broken reads (least k i ru n h before earlier))
@@ -162,7 +175,8 @@ module _ (t : Rules) (fits : t .required < 2 ^ 64) (s : List ℕ) where
     unfolding verdictOn verdict
     broken-verdict k i l = by searched
       where
-        least-part : (ru : Rule) (i′ : ℕ) → l .rule ≡ ru → HitBy (parentOf t) es (held es) ru i′ → ((j : ℕ) → j < i′ → ¬ HitBy (parentOf t) es (held es) ru j) → i ≡ i′
+        least-part : (ru : Rule) (i′ : ℕ) → l .rule ≡ ru → HitBy (parentOf t) es (held es) ru i′
+            → ((j : ℕ) → j < i′ → ¬ HitBy (parentOf t) es (held es) ru j) → i ≡ i′
         least-part ru i′ e h before = at (decLt i i′) (decLt i′ i)
           where
             mine : HitBy (parentOf t) es (held es) ru i
@@ -188,7 +202,8 @@ module _ (t : Rules) (fits : t .required < 2 ^ 64) (s : List ℕ) where
             let z : k ≡ 0 + k′ = omega arith in
             ap₂ Checked.Broken z (least-part ru i′ e h before)
 
-        by : {b : Break} → RuleSearch (parentOf t) es (held es) 0 (rulesOf t .rules) b → Checked.Broken k i ≡ verdict (t .required) (getD (held es) 0 0) b
+        by : {b : Break} → RuleSearch (parentOf t) es (held es) 0 (rulesOf t .rules) b
+            → Checked.Broken k i ≡ verdict (t .required) (getD (held es) 0 0) b
         by (found k′ i′ ru n h before earlier) = at-rule k′ i′ ru n h before earlier (decLt k k′) (decLt k′ k)
         by (unbroken none) = absurd (none k (l .rule) (l .numbered) i (breaks-hit (l .rule) i (l .part)))
 
@@ -254,7 +269,8 @@ module _ (t : Rules) (fits : t .required < 2 ^ 64) (s : List ℕ) where
   answer-judged : Bytes s → Judged t s (checkAnswer t s)
   answer-judged bs = by (tablePasses t) refl (decLt 65536 (length s))
     where
-      read : (v : ValidTable t) → length s ≤ 65536 → (o : Outcome (List Entry)) → runAll (documentFile (parentOf t) (t .paths)) s ≡ o → Judged t s (checkAnswer t s)
+      read : (v : ValidTable t) → length s ≤ 65536 → (o : Outcome (List Entry)) → runAll (documentFile (parentOf t) (t .paths)) s ≡ o
+          → Judged t s (checkAnswer t s)
       read v l (refused k at) e =
           subst (Judged t s) (sym (answer-refused v l k at e)) (file v l (refused-only (documentFile (parentOf t) (t .paths)) s bs k at e))
       read v l (got es at) e =
@@ -272,7 +288,8 @@ module _ (t : Rules) (fits : t .required < 2 ^ 64) (s : List ℕ) where
       by true e (no h) = read (passes-valid t fits .0 e) (omega arith) (runAll (documentFile (parentOf t) (t .paths)) s) refl
 
 -- the contract in the words of the code, where each byte of the slice is known to fit
-pub checks : (t : Rules) (s : List ℕ) (r : Checked) → t .required < 2 ^ 64 → ((i : ℕ) → getD s i 0 < 256) → r ≡ checkAnswer t s → CheckDocument t s r
+pub checks : (t : Rules) (s : List ℕ) (r : Checked) → t .required < 2 ^ 64 → ((i : ℕ) → getD s i 0 < 256) → r ≡ checkAnswer t s
+    → CheckDocument t s r
 checks t s r fits bytes e =
     record {
       answer = e;

@@ -53,7 +53,8 @@ module _ (parent : List ℕ) (count : ℕ) (out : List ℕ) (x : ℕ) (inv : Par
 pub ruleset parents-laws = (parents-start, parents-more, parents-end)
 
 -- the parent of path x in a table, as its arrays have it
-paths-parent : (parent label : List ℕ) (x k j : ℕ) → j < k → getD (map (λ (p : Path). p .parent) (pathsFrom parent label x k)) j 0 ≡ getD parent (x + j) 0
+paths-parent : (parent label : List ℕ) (x k j : ℕ) → j < k
+    → getD (map (λ (p : Path). p .parent) (pathsFrom parent label x k)) j 0 ≡ getD parent (x + j) 0
 unfolding pathsFrom
 paths-parent parent label x zero j h = absurd (omega arith)
 paths-parent parent label x (suc k) zero h = let e : x ≡ x + 0 = omega arith in ap (λ (y : ℕ). getD parent y 0) e

@@ -106,7 +106,8 @@ path-small parent count n set p few e = by (ℕ-discrete n 0) (ℕ-discrete p 0)
 -- ---- so many children
 
 -- a child that was read is below the part count
-pub kid-small : (low size k : ℕ) (s : List ℕ) (next : ℕ) (r : Number) {x width : ℕ} (i : ℕ) → r ≡ tested (between low size k) (numberIn (drop next s))
+pub kid-small : (low size k : ℕ) (s : List ℕ) (next : ℕ) (r : Number) {x width : ℕ} (i : ℕ)
+    → r ≡ tested (between low size k) (numberIn (drop next s))
     → 0 < k → r ≡ Is x width → i ≡ x → size ≤ 512 → i < 512
 kid-small low size k s next r {x} {width} i e some f g few =
     let b : (low ≤ x) × (x < size) = between-taken low size k s next x width r some e f in
@@ -274,10 +275,11 @@ module _ (s : List ℕ) (at size n p : ℕ) (before after : List ℕ) (m : Numbe
       → q ≡ partOf p at end → PartAnswer s before after (run (kidsOn size n p) at (drop at s)) q
   unfolding kidsOn on onward partOf run kidsAt onKid
   count-is {many} {width} end q f a g =
-      rw
-      (g,
-       run-on {A = Entry} any (λ k. on k) s at many width (sym e ∙ f) refl
-       ∙ run-then (moreKids size many n []) (λ ks. done (record { path = p; kids = ks })) s (at + width))
+      rw (
+        g,
+        run-on {A = Entry} any (λ k. on k) s at many width (sym e ∙ f) refl
+            ∙ run-then (moreKids size many n []) (λ ks. done (record { path = p; kids = ks })) s (at + width),
+      )
       (by a)
     where
       by : {o : Outcome (List ℕ)} {r : Section} → KidsAnswer s (at + width) many p before after o r
@@ -289,7 +291,8 @@ pub ruleset count-laws = (count-bad, count-is, place-fits)
 
 module _ (s : List ℕ) (at : ℕ) (parent : ℕ → ℕ) (count size n set : ℕ) (before after : List ℕ) (r : Number)
     (e : r ≡ tested (pathTest parent count n set) (numberIn (drop at s))) where
-  pub part-bad : {k : ℕ} → r ≡ Refused k → PartAnswer s before after (run (partAt parent count size n set) at (drop at s)) (OnePart.Refused k at)
+  pub part-bad : {k : ℕ} → r ≡ Refused k
+      → PartAnswer s before after (run (partAt parent count size n set) at (drop at s)) (OnePart.Refused k at)
   unfolding partAt
   part-bad {k} f =
       let o : run (partAt parent count size n set) at (drop at s) ≡ refused k at =

@@ -98,7 +98,8 @@ unfolding addAll
 add-has w [] y small m = absurd (List·Memᴰ·not-nil m)
 add-has w (x ∷ xs) y small m =
     ⊎-elim
-    (λ (e : y ≡ x). add-keeps (withPath w x) xs y (λ z n. small z (List·Memᴰ·tail n)) (has-with w x y (small x (List·Memᴰ·head refl)) .1 (inl e)))
+    (λ (e : y ≡ x). add-keeps (withPath w x) xs y (λ z n. small z (List·Memᴰ·tail n))
+    (has-with w x y (small x (List·Memᴰ·head refl)) .1 (inl e)))
     (add-has (withPath w x) xs y (λ z n. small z (List·Memᴰ·tail n))) (List·Memᴰ·cases-cons m)
 
 -- paths that are all the same
@@ -106,7 +107,8 @@ add-same : (q : ℕ) (xs : List ℕ) → q < 64 → ((x : ℕ) → List·Memᴰ 
 unfolding addAll
 add-same q [] h all = refl
 add-same q (x ∷ xs) h all =
-    let e : withPath (2 ^ q) x ≡ 2 ^ q = ap (withPath (2 ^ q)) (all x (List·Memᴰ·head refl)) ∙ with-old (2 ^ q) q h (record { one = bit-pow-same q }) in
+    let e : withPath (2 ^ q) x ≡ 2 ^ q = ap (withPath (2 ^ q)) (all x (List·Memᴰ·head refl))
+    ∙ with-old (2 ^ q) q h (record { one = bit-pow-same q }) in
     ap (λ (w : ℕ). addAll w xs) e ∙ add-same q xs h (λ y m. all y (List·Memᴰ·tail m))
 
 pub set-one : (q : ℕ) (xs : List ℕ) (y : ℕ) → q < 64 → List·Memᴰ y xs → ((x : ℕ) → List·Memᴰ x xs → x ≡ q) → addAll 0 xs ≡ 2 ^ q
@@ -202,7 +204,8 @@ module _ (parent : ℕ → ℕ) (count : ℕ) (es : List Entry) (p : ℕ) where
     by-namer later h inner x m (other y k n) =
         let o = namers-only (length es) es y k in
         subst PathIs
-        (named-else parent (addAll 0 xs) p (set-some xs x xs-small m) inner (λ e. n (set-all (parent p) xs y xs-small e k)) ∙ tested later h)
+        (named-else parent (addAll 0 xs) p (set-some xs x xs-small m) inner (λ e. n (set-all (parent p) xs y xs-small e k))
+        ∙ tested later h)
         (elsewhere later h (record { by = o .by; other = λ e. n (sym (o .on) ∙ e) }))
 
     by-set : length es ≢ 0 → p < count → Members xs → Dec (p ≡ 0) → PathIs answer

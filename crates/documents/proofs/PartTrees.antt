@@ -38,7 +38,7 @@ module _ {parent : ℕ → ℕ} {count : ℕ} {es : List Entry} (valid : ValidPa
   -- no naming goes round
   pub parts-fall : Falls (entryKids es) (λ n. length es - n) (0 ∷ [])
   parts-fall = record {
-    each = λ n k a m. let h = named-listed a in omega (arith, later n k h m, valid .below n k h m)
+    each = λ n k a m. let h = named-listed a in omega (arith, later n k h m, valid .below n k h m);
   }
 
   -- every naming fits the table
@@ -46,7 +46,7 @@ module _ {parent : ℕ → ℕ} {count : ℕ} {es : List Entry} (valid : ValidPa
   parts-fit = record {
     each = λ n k a m.
         let h = named-listed a in
-        record { inner = valid .inner n k h m; small = valid .inside k (valid .below n k h m); parent-is = valid .parent-is n k h m }
+        record { inner = valid .inner n k h m; small = valid .inside k (valid .below n k h m); parent-is = valid .parent-is n k h m };
   }
 
   -- the list stands for a document of the table, and for no other tree

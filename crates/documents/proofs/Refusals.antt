@@ -64,12 +64,14 @@ path-row parent count n set p = by (eqb n 0) (eqb p 0) (ltb p count) (eqb set 0)
 kids-rows : (size k last : ℕ) (ks : List ℕ) → Rows (moreKids size k last ks)
 unfolding moreKids
 kids-rows size zero last ks = rows-done
-kids-rows size (suc k) last ks = rows-want (between-row (last + 1) size 19 (omega arith) (omega arith)) (λ x. kids-rows size k x (ks ++ (x ∷ [])))
+kids-rows size (suc k) last ks =
+    rows-want (between-row (last + 1) size 19 (omega arith) (omega arith)) (λ x. kids-rows size k x (ks ++ (x ∷ [])))
 
 part-rows : (parent : ℕ → ℕ) (count size : ℕ) (es : List Entry) → Rows (onePart parent count size es)
 unfolding onePart partAt kidsOn
 part-rows parent count size es =
-    rows-want (path-row parent count (length es) _) (λ p. rows-want (λ k. inl refl) (λ k. rows-then (kids-rows size k (length es) []) (λ ks. rows-done)))
+    rows-want (path-row parent count (length es) _)
+    (λ p. rows-want (λ k. inl refl) (λ k. rows-then (kids-rows size k (length es) []) (λ ks. rows-done)))
 
 parts-rows : (parent : ℕ → ℕ) (count size k : ℕ) (es : List Entry) → Rows (moreParts parent count size k es)
 unfolding moreParts

@@ -12,7 +12,18 @@ use Rattle.files.specs.Rules.{addAll}
 use Rattle.files.specs.Sets.{Ascending}
 use Rattle.files.proofs.Formats.{accepted-if, accepted-only}
 use Rattle.files.proofs.TableTests.{ascending-from}
-use Rattle.documents.specs.PartList.{Entry, namers, pathTest, documentFile, entryPath, entryKids, documentNumbers, Namer, NamedEarlier, ValidParts}
+use Rattle.documents.specs.PartList.{
+  Entry,
+  namers,
+  pathTest,
+  documentFile,
+  entryPath,
+  entryKids,
+  documentNumbers,
+  Namer,
+  NamedEarlier,
+  ValidParts,
+}
 use Rattle.documents.proofs.PartReader.{path-small, path-zero}
 use Rattle.documents.proofs.PartTests.{NamersOn, passes-only, passes-first, passes-if}
 use Rattle.documents.proofs.PartNumbers.{PartGood, Lays, nothing, part, document-only, document-if}
@@ -38,7 +49,8 @@ abbrev entry : List Entry → ℕ → Entry
 entry es i = record { path = entryPath es i; kids = entryKids es i }
 
 module _ (parent : ℕ → ℕ) (count size : ℕ) where
-  lays-at : (es rest : List Entry) → Lays parent count size es rest → (i : ℕ) → i < length rest → PartGood parent count size (es ++ take i rest) (entry rest i)
+  lays-at : (es rest : List Entry) → Lays parent count size es rest → (i : ℕ) → i < length rest
+      → PartGood parent count size (es ++ take i rest) (entry rest i)
   unfolding entryPath entryKids
   lays-at es [] nothing i h = absurd (omega arith)
   lays-at es (e ∷ rest) (part g l) zero h = subst (λ (q : List Entry). PartGood parent count size q e) (sym (append-nil es)) g
@@ -46,13 +58,15 @@ module _ (parent : ℕ → ℕ) (count size : ℕ) where
       subst (λ (q : List Entry). PartGood parent count size q (entry rest i)) (append-snoc es e (take i rest))
       (lays-at (es ++ (e ∷ [])) rest l i (omega arith))
 
-  at-lays : (es rest : List Entry) → ((i : ℕ) → i < length rest → PartGood parent count size (es ++ take i rest) (entry rest i)) → Lays parent count size es rest
+  at-lays : (es rest : List Entry) → ((i : ℕ) → i < length rest → PartGood parent count size (es ++ take i rest) (entry rest i))
+      → Lays parent count size es rest
   unfolding entryPath entryKids
   at-lays es [] h = nothing
   at-lays es (e ∷ rest) h =
       part (subst (λ (q : List Entry). PartGood parent count size q e) (append-nil es) (h 0 (omega arith)))
       (at-lays (es ++ (e ∷ [])) rest
-      (λ i l. subst (λ (q : List Entry). PartGood parent count size q (entry rest i)) (sym (append-snoc es e (take i rest))) (h (suc i) (omega arith))))
+      (λ i l. subst (λ (q : List Entry). PartGood parent count size q (entry rest i)) (sym (append-snoc es e (take i rest)))
+      (h (suc i) (omega arith))))
 
 -- what the tests say of every part by itself
 module _ (parent : ℕ → ℕ) (count : ℕ) (table : count ≤ 64) (es : List Entry) where
@@ -64,7 +78,8 @@ module _ (parent : ℕ → ℕ) (count : ℕ) (table : count ≤ 64) (es : List 
   pub read-good : (s : List ℕ) → Bytes s → (at : ℕ) → runAll (documentFile parent count) s ≡ got es at → Good
   unfolding Good
   read-good s bs at e =
-      lays-at parent count (length es) [] es (document-only parent count (accepted-only (documentFile parent count) s bs es at e .0 .leads) .lays)
+      lays-at parent count (length es) [] es
+      (document-only parent count (accepted-only (documentFile parent count) s bs es at e .0 .leads) .lays)
 
   module _ (good : Good) where
     pub small : (i : ℕ) → i < length es → entryPath es i < 64
@@ -91,7 +106,8 @@ module _ (parent : ℕ → ℕ) (count : ℕ) (some-path : 0 < count) (table : c
 
     -- what the tests of a part after 0 say
     later : (n : ℕ) → 0 < n → n < length es
-        → (entryPath es n < count) × Namer (take n es) (length (take n es)) × (entryPath es n ≢ 0) × NamersOn (take n es) (length (take n es)) (parent (entryPath es n))
+        → (entryPath es n < count) × Namer (take n es) (length (take n es)) × (entryPath es n ≢ 0) × NamersOn (take n es)
+        (length (take n es)) (parent (entryPath es n))
     unfolding Good
     later n some h =
         passes-only parent count (take n es) (entryPath es n) (up (entryPath es n)) (small-before n (omega arith)) (good n h .passes)
@@ -99,7 +115,8 @@ module _ (parent : ℕ → ℕ) (count : ℕ) (some-path : 0 < count) (table : c
 
     root-is : 0 < length es → entryPath es 0 ≡ 0
     unfolding Good
-    root-is h = passes-first parent count (take 0 es) (entryPath es 0) (up (entryPath es 0)) (small-before 0 (omega arith)) (good 0 h .passes) refl
+    root-is h = passes-first parent count (take 0 es) (entryPath es 0) (up (entryPath es 0)) (small-before 0 (omega arith))
+        (good 0 h .passes) refl
 
     inside-is : (n : ℕ) → n < length es → entryPath es n < count
     inside-is zero h = omega (arith, root-is h)
@@ -127,8 +144,8 @@ module _ (parent : ℕ → ℕ) (count : ℕ) (some-path : 0 < count) (table : c
         sym
         (sym (take-path k es n l)
         ∙ on .each n (omega arith)
-          (subst (λ (j : ℕ). List·Memᴰ j (entryKids (take k es) n)) (sym e)
-          (subst (λ (ks : List ℕ). List·Memᴰ k ks) (sym (take-kids k es n l)) m)))
+        (subst (λ (j : ℕ). List·Memᴰ j (entryKids (take k es) n)) (sym e)
+        (subst (λ (ks : List ℕ). List·Memᴰ k ks) (sym (take-kids k es n l)) m)))
 
     good-valid : 1 ≤ length es → length es ≤ 512 → ValidParts parent count es
     good-valid some most =
@@ -140,7 +157,8 @@ module _ (parent : ℕ → ℕ) (count : ℕ) (some-path : 0 < count) (table : c
           kids = kids-are parent count table es good;
           below = inside parent count table es good;
           named = λ k s h. earlier k h (later k s h .1);
-          inner = λ n k h m. let e = later k (omega (arith, above parent count table es good n k h m)) (inside parent count table es good n k h m) .2 in omega (arith, e);
+          inner = λ n k h m. let e = later k (omega (arith, above parent count table es good n k h m))
+              (inside parent count table es good n k h m) .2 in omega (arith, e);
           parent-is = parents-are;
         }
 
@@ -169,10 +187,11 @@ module _ (parent : ℕ → ℕ) (count : ℕ) (some-path : 0 < count) (table : c
           let b : i < n = omega arith in
           let k : List·Memᴰ n (entryKids es i) =
           subst (λ (ks : List ℕ). List·Memᴰ n ks) (take-kids n es i b) (subst (λ (j : ℕ). List·Memᴰ j (entryKids (take n es) i)) e m) in
-          take-path n es i b ∙ sym (valid .parent-is i n (omega arith) k)
+          take-path n es i b ∙ sym (valid .parent-is i n (omega arith) k);
     }
 
-    passes-at : (n : ℕ) → n < length es → pathTest parent count (length (take n es)) (addAll 0 (namers (length (take n es)) (take n es))) (entryPath es n) ≡ 0
+    passes-at : (n : ℕ) → n < length es
+        → pathTest parent count (length (take n es)) (addAll 0 (namers (length (take n es)) (take n es))) (entryPath es n) ≡ 0
     passes-at zero h = sym (path-zero parent count 0 _ (entryPath es 0) refl (valid .root))
     passes-at (suc n) h =
         let a = valid .named (suc n) (omega arith) h in
@@ -195,8 +214,7 @@ module _ (parent : ℕ → ℕ) (count : ℕ) (some-path : 0 < count) (table : c
       → ValidParts parent count es × (s ≡ bytesOfAll (documentNumbers es)) × (at ≡ length s)
   read-valid s bs at e =
       let a = accepted-only (documentFile parent count) s bs es at e in
-      let d = document-only parent count (a .0 .leads) in
-      (
+      let d = document-only parent count (a .0 .leads) in (
         good-valid (read-good parent count table es s bs at e) (d .some) (d .most),
         a .0 .bytes ∙ ap bytesOfAll (d .numbers),
         a .1,

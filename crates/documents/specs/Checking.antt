@@ -80,7 +80,8 @@ unfoldable pub checkAnswer : Rules → List ℕ → Checked
 checkAnswer t s =
     cond (tablePasses t)
     (cond (ltb 65536 (length s)) (Refused 14 0)
-    (judged (parentIn (rulesOf t .paths)) (rulesOf t .rules) (t .required) (runAll (documentFile (parentIn (rulesOf t .paths)) (t .paths)) s)))
+    (judged (parentIn (rulesOf t .paths)) (rulesOf t .rules) (t .required)
+    (runAll (documentFile (parentIn (rulesOf t .paths)) (t .paths)) s)))
     (Refused 12 0)
 
 -- what checking a document promises, on every table and all bytes

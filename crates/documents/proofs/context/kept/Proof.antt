@@ -1,7 +1,5 @@
 use Rattle.documents.proofs.context.kept.Statement.{statement}
 use Rattle.documents.proofs.context.kept.Tie as tie
-use Rattle.documents.proofs.context.kept.Reads as reads
-use Rattle.documents.proofs.context.kept.Lts as lts
 use borrow.Author.Needs.{needs}
 use Rattle.documents.proofs.Climbing.{kept-laws}
 

@@ -1,8 +1,5 @@
 use Rattle.documents.proofs.context.parents.Statement.{statement}
 use Rattle.documents.proofs.context.parents.Tie as tie
-use Rattle.documents.proofs.context.parents.Reads as reads
-use Rattle.documents.proofs.context.parents.Lts as lts
-use Rattle.documents.proofs.context.kept.Reads as kept-reads
 use borrow.Author.Needs.{needs}
 use Rattle.documents.proofs.Climbing.{ParentsSoFar, parents-laws}
 use Prim.Native.Nat.{_-_}
