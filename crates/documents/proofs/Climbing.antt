@@ -11,7 +11,7 @@ use lib.Dec.{ltb}
 use borrow.Author.Tests.{lt-ltb, le-ltb, eq-eqb, ne-eqb}
 use Rattle.files.specs.Rules.{pathsFrom}
 use Rattle.files.specs.Table.{Path, parentIn}
-use Rattle.files.proofs.TableTests.{paths-from-length}
+use Rattle.files.proofs.Tables.{paths-length}
 use Rattle.documents.specs.Paths.{meet, contextOf}
 use Rattle.documents.specs.Reading.{parentAt, kept, TableParents}
 
@@ -72,7 +72,7 @@ parents-are parent label count r few t = fun-ext λ x. by x (decLt x 64)
     ps = pathsFrom parent label 1 (count - 1)
 
     many : length (map (λ (p : Path). p .parent) ps) ≡ count - 1
-    many = length-map (pathsFrom parent label 1 (count - 1)) (λ (p : Path). p .parent) ∙ paths-from-length parent label 1 (count - 1)
+    many = length-map (pathsFrom parent label 1 (count - 1)) (λ (p : Path). p .parent) ∙ paths-length parent label 1 (count - 1)
 
     past : (j : ℕ) → count ≤ suc j → getD (map (λ (p : Path). p .parent) ps) j 0 ≡ 0
     past j h = List·getD-eq-default (map (λ (p : Path). p .parent) ps) 0 (omega (arith, many))

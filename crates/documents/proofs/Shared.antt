@@ -82,7 +82,8 @@ module _ {P Q : Type 0} {path : P → ℕ} {kids : P → List P} {ps : List P} {
   renamed-falls f = record { each = λ q k n m. f .each (part q) (part k) (named-image n) (same .next q k n m) }
 
   module _ {parent : ℕ → ℕ} where
-    renamed-implication : {p q : ℕ} → PartsImplication parent path kids ps p q ↔ PartsImplication parent onPath names qs p q
+    -- the names obey an implication, or an absence, exactly if the parts do
+    pub renamed-implication : {p q : ℕ} → PartsImplication parent path kids ps p q ↔ PartsImplication parent onPath names qs p q
     renamed-implication {q = q} = (
       λ h. record {
         every = λ c x a n e k. renamed-holds n .1 (h .every c x (part a) (named-image n) (same .on a n ∙ e) (renamed-holds n .0 k));
@@ -96,7 +97,7 @@ module _ {P Q : Type 0} {path : P → ℕ} {kids : P → List P} {ps : List P} {
       },
     )
 
-    renamed-absence : {p q : ℕ} → PartsAbsence parent path kids ps p q ↔ PartsAbsence parent onPath names qs p q
+    pub renamed-absence : {p q : ℕ} → PartsAbsence parent path kids ps p q ↔ PartsAbsence parent onPath names qs p q
     renamed-absence = (
       λ h. record {
         never = λ c x a n e k l.

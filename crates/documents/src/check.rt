@@ -18,7 +18,7 @@ use crate::context::parents;
 use crate::document::Listed;
 use crate::document::read_document;
 use crate::held::hold_all;
-use files::read::wide;
+use files::number::wide;
 use files::rules::Rules;
 use files::sets::difference;
 use files::sets::has;

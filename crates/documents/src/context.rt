@@ -3,7 +3,7 @@ ghost use Prim.Native.Nat.{ℕ, _+_, _-_, _<_};
 ghost use mathlib.Core.Path.{_≡_};
 ghost use Rattle.documents.specs.Paths.{meet, contextOf};
 ghost use Rattle.documents.specs.Reading.{kept, parentAt, TableParents};
-use files::read::wide;
+use files::number::wide;
 
 // The parent of path x as it is kept: 0 for the root and for a path past the table.
 fn kept(parent: u8, x: usize, count: usize) -> u8

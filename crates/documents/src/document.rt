@@ -14,8 +14,8 @@ use files::number::Number;
 use files::number::read_number;
 use files::read::passed;
 use files::read::read_between;
-use files::read::wide;
-use files::read::wide_number;
+use files::number::wide;
+use files::number::wide_number;
 use files::sets::with;
 
 // The place after a section, or its refusal.

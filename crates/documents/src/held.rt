@@ -7,8 +7,8 @@ ghost use Rattle.documents.specs.Reading.{kidsFrom, kidsAt};
 ghost use Rattle.documents.specs.Held.{setAt, heldAmong, Laid, Linked};
 use files::number::Number;
 use files::number::read_number;
-use files::read::wide;
-use files::read::wide_number;
+use files::number::wide;
+use files::number::wide_number;
 use files::sets::union;
 use files::sets::with;
 

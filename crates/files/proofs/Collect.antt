@@ -1,7 +1,7 @@
 -- Laws of the numbers of a rule file collected in an array, section by section: what is stored and what remains.
-use Prim.Native.Nat.{ℕ, zero, suc, _+_, _-_, _^_, _<_, _≤_}
-use mathlib.Core.Path.{_≡_, refl, sym, ap, _∙_}
-use mathlib.Core.List.{List, [], _∷_, _++_}
+use Prim.Native.Nat.{ℕ, suc, _+_, _-_, _^_, _<_, _≤_}
+use mathlib.Core.Path.{_≡_, ap, _∙_}
+use mathlib.Core.List.{List, _∷_}
 use native.Mathlib.Omega.{arith}
 use native.Mathlib.Numerals.{add-one, add-two, add-three}
 use lib.ListN.{length, getD, set}
@@ -9,7 +9,6 @@ use lib.Seq.{sets}
 use Rattle.files.specs.RuleFile.{pathNumbers, ruleNumbers}
 use Rattle.files.specs.Rules.{pathsFrom, rulesFrom}
 use Rattle.files.specs.Sets.{lowest, withoutLowest, size, members}
-use Rattle.files.specs.Table.{Rule}
 use Rattle.files.proofs.Reader.{paths-step}
 use Rattle.files.proofs.SetMembers.{members-take, members-of-zero, size-members, size-le}
 
@@ -17,7 +16,9 @@ use Rattle.files.proofs.SetMembers.{members-take, members-of-zero, size
 module _ (parent label numbers : List ℕ) (x count at : ℕ) (w : List ℕ)
     (inv : sets numbers at (pathNumbers (pathsFrom parent label x (count - x))) ≡ w) where
   pub paths-on : (p : ℕ) → x < count → p ≡ getD parent x 0
-      → sets (set (set numbers at p) (at + 1) (getD label x 0)) (at + 2) (pathNumbers (pathsFrom parent label (x + 1) (count - (x + 1)))) ≡ w
+      → sets (set (set numbers at p) (at + 1) (getD label x 0)) (at + 2)
+      (pathNumbers (pathsFrom parent label (x + 1) (count - (x + 1))))
+      ≡ w
   unfolding pathNumbers
   paths-on p h e = rw (add-one at, add-two at, e) (rw (paths-step parent label x count h) at inv)
 
@@ -48,7 +49,8 @@ members-most start w = omega (arith, size-members w, size-le w)
 pub members-counted : (rest at k : ℕ) → at + length (members rest) ≡ k → rest ≡ 0 → at ≡ k
 members-counted rest at k inv e = omega (arith, ap length (ap members e ∙ members-of-zero))
 
-pub members-end : (numbers entry : List ℕ) (rest at start s w : ℕ) → sets numbers at (members rest) ≡ sets (set entry start s) (start + 1) (members w)
+pub members-end : (numbers entry : List ℕ) (rest at start s w : ℕ)
+    → sets numbers at (members rest) ≡ sets (set entry start s) (start + 1) (members w)
     → rest ≡ 0 → s ≡ size w → numbers ≡ sets entry start (length (members w) ∷ members w)
 members-end numbers entry rest at start s w inv e f =
     rw (← size-members w, ← f) (rw (e, members-of-zero, add-one start) at inv)
@@ -58,19 +60,22 @@ pub ruleset members-laws = (members-less, members-count, members-on, members-mos
 -- the rules from x on begin with rule x
 pub rules-step : (kind left right : List ℕ) (x count : ℕ) → x < count
     → rulesFrom kind left right x (count - x)
-      ≡ record { kind = getD kind x 0; left = getD left x 0; right = getD right x 0 } ∷ rulesFrom kind left right (x + 1) (count - (x + 1))
+    ≡ record { kind = getD kind x 0; left = getD left x 0; right = getD right x 0 } ∷ rulesFrom kind left right (x + 1) (count - (x + 1))
 unfolding rulesFrom
 rules-step kind left right x count h = rw (let e : count - x ≡ suc (count - (x + 1)) = omega arith in e)
 
 module _ (kind left right numbers : List ℕ) (x count at : ℕ) (w : List ℕ)
     (inv : sets numbers at (ruleNumbers (rulesFrom kind left right x (count - x))) ≡ w) where
   pub rules-on : (k l r : ℕ) → x < count → k ≡ getD kind x 0 → l ≡ getD left x 0 → r ≡ getD right x 0
-      → sets (set (set (set numbers at k) (at + 1) l) (at + 2) r) (at + 3) (ruleNumbers (rulesFrom kind left right (x + 1) (count - (x + 1)))) ≡ w
+      → sets (set (set (set numbers at k) (at + 1) l) (at + 2) r) (at + 3)
+      (ruleNumbers (rulesFrom kind left right (x + 1) (count - (x + 1))))
+      ≡ w
   unfolding ruleNumbers
   rules-on k l r h a b c = rw (add-one at, add-two at, add-three at, a, b, c) (rw (rules-step kind left right x count h) at inv)
 
 pub rules-start : (kind left right numbers : List ℕ) (count at : ℕ)
-    → sets numbers at (ruleNumbers (rulesFrom kind left right 0 (count - 0))) ≡ sets numbers at (ruleNumbers (rulesFrom kind left right 0 count))
+    → sets numbers at (ruleNumbers (rulesFrom kind left right 0 (count - 0)))
+    ≡ sets numbers at (ruleNumbers (rulesFrom kind left right 0 count))
 rules-start kind left right numbers count at = rw (let e : count - 0 ≡ count = omega arith in e)
 
 pub rules-end : (kind left right numbers entry : List ℕ) (x count at start : ℕ) (ns : List ℕ)

@@ -1,12 +1,12 @@
--- Laws of the depths of paths: what is worked out path by path is the depth that a path has.
-use Prim.Native.Nat.{ℕ, zero, suc, _+_, _<_, _≤_}
+-- Laws of the paths of a table by their place, and of their depths: what is worked out path by path is the depth that a path has.
+use Prim.Native.Nat.{ℕ, zero, suc, _+_, _<_}
 use mathlib.Core.Path.{_≡_, refl, sym, ap, subst, _∙_}
 use mathlib.Core.List.{List, [], _∷_, _++_, map}
 use native.Mathlib.Omega.{arith}
 use lib.ListN.{length, getD, length-append, List·getD-append}
 use lib.Seq.{getD-append-seam}
 use Rattle.files.specs.RuleFile.{deeper, depths}
-use Rattle.files.specs.Table.{Path, parentIn, Depth, root, under}
+use Rattle.files.specs.Table.{Path, labels, parentIn, Depth, root, under}
 
 -- a path other than the root, with those before it and those after it
 pub data At : List Path → ℕ → Type 0 where
@@ -22,16 +22,30 @@ at-place (p ∷ ps) (suc zero) pos h = at [] p ps
 at-place (p ∷ ps) (suc (suc i)) pos h = at-later p (at-place ps (suc i) (omega arith) (omega arith))
 
 module _ {A : Type 0} (f : A → ℕ) where
-  -- what a path there has, and what those before it have
-  pub map-there : (before : List A) (p : A) (after : List A) → getD (map f (before ++ (p ∷ after))) (length before) 0 ≡ f p
+  map-there : (before : List A) (p : A) (after : List A) → getD (map f (before ++ (p ∷ after))) (length before) 0 ≡ f p
   map-there [] p after = refl
   map-there (q ∷ before) p after = map-there before p after
 
-  pub map-before : (v : ℕ) (before rest : List A) (x : ℕ) → x < 1 + length before
+  map-before : (v : ℕ) (before rest : List A) (x : ℕ) → x < 1 + length before
       → getD (v ∷ map f (before ++ rest)) x 0 ≡ getD (v ∷ map f before) x 0
   map-before v before rest zero h = refl
   map-before v [] rest (suc i) h = absurd (omega arith)
   map-before v (q ∷ before) rest (suc i) h = map-before (f q) before rest i (omega arith)
+
+-- parent and label of a path there, and of those before it
+module _ (before : List Path) (p : Path) (after : List Path) where
+  pub parent-there : parentIn (before ++ (p ∷ after)) (suc (length before)) ≡ p .parent
+  parent-there = map-there (λ (q : Path). q .parent) before p after
+
+  pub parent-before : (x : ℕ) → x < 1 + length before → parentIn (before ++ (p ∷ after)) x ≡ parentIn before x
+  parent-before x h = map-before (λ (q : Path). q .parent) 0 before (p ∷ after) x h
+
+  pub label-there : (r : ℕ) → getD (labels r (before ++ (p ∷ after))) (suc (length before)) 0 ≡ p .label
+  label-there r = map-there (λ (q : Path). q .label) before p after
+
+  pub label-before : (r x : ℕ) → x < 1 + length before
+      → getD (labels r (before ++ (p ∷ after))) x 0 ≡ getD (labels r before) x 0
+  label-before r x h = map-before (λ (q : Path). q .label) r before (p ∷ after) x h
 
 deeper-append : (ds : List ℕ) (ps qs : List Path) → deeper ds (ps ++ qs) ≡ deeper (deeper ds ps) qs
 unfolding deeper
@@ -94,10 +108,10 @@ module _ (ps : List Path) (smaller : Smaller ps) where
     where
       by : {qs : List Path} {y : ℕ} → At qs y → parentIn qs y < y → getD (depths qs) y 0 ≡ 1 + getD (depths qs) (parentIn qs y) 0
       by (at before p after) s =
-          let here : parentIn (before ++ (p ∷ after)) (suc (length before)) ≡ p .parent = map-there (λ (q : Path). q .parent) before p after in
-          rw here
+          let same = parent-there before p after in
+          rw same
           (depths-there before p after
-          ∙ ap (λ (d : ℕ). 1 + d) (sym (depths-before before (p ∷ after) (p .parent) (omega (arith, here, s)))))
+          ∙ ap (λ (d : ℕ). 1 + d) (sym (depths-before before (p ∷ after) (p .parent) (omega (arith, s)))))
 
   -- a path of the table has exactly the depth that is worked out
   pub depth-only : {x d : ℕ} → Depth ps x d → x < 1 + length ps → d ≡ getD (depths ps) x 0
@@ -108,11 +122,11 @@ module _ (ps : List Path) (smaller : Smaller ps) where
   pub depth-is : (x : ℕ) → x < 1 + length ps → Depth ps x (getD (depths ps) x 0)
   depth-is x h = upto (suc x) x (omega arith) h
     where
-      next : (n x : ℕ) → ((y : ℕ) → y < n → y < 1 + length ps → Depth ps y (getD (depths ps) y 0)) → 0 < x → x < suc n → x < 1 + length ps
-          → Depth ps x (getD (depths ps) x 0)
+      next : (n x : ℕ) → ((y : ℕ) → y < n → y < 1 + length ps → Depth ps y (getD (depths ps) y 0))
+          → 0 < x → x < suc n → x < 1 + length ps → Depth ps x (getD (depths ps) x 0)
       next n x below pos l h′ =
-          subst (Depth ps x) (let e : suc (getD (depths ps) (parentIn ps x) 0) ≡ getD (depths ps) x 0 = omega (arith, depths-step x pos h′) in e)
-          (under pos (below (parentIn ps x) (omega (arith, smaller x pos h′)) (omega (arith, smaller x pos h′))))
+          let deep : suc (getD (depths ps) (parentIn ps x) 0) ≡ getD (depths ps) x 0 = omega (arith, depths-step x pos h′) in
+          subst (Depth ps x) deep (under pos (below (parentIn ps x) (omega (arith, smaller x pos h′)) (omega (arith, smaller x pos h′))))
 
       upto : (n x : ℕ) → x < n → x < 1 + length ps → Depth ps x (getD (depths ps) x 0)
       upto zero x l h′ = absurd (omega arith)

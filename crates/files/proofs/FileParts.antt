@@ -19,7 +19,8 @@ use Rattle.files.proofs.Rows.{between-passes, parent-passes}
 
 -- ---- paths
 
-one-path-only : (ps : List Path) {ns : List ℕ} {p : Path} → Leads (onePath ps) ns (done p) → PathGood ps p × (ns ≡ p .parent ∷ p .label ∷ [])
+one-path-only : (ps : List Path) {ns : List ℕ} {p : Path} → Leads (onePath ps) ns (done p)
+    → PathGood ps p × (ns ≡ p .parent ∷ p .label ∷ [])
 unfolding onePath pathLabel
 one-path-only ps {ns} l =
     let parent = leads-want _ _ l in
@@ -83,7 +84,8 @@ Within count xs = (x : ℕ) → List·Memᴰ x xs → x < count
 pub data RequiredLed (count last k : ℕ) (xs : List ℕ) : List ℕ → List ℕ → Type 0 where
   required-led : (ns : List ℕ) → length ns ≡ k → Ascending (suc last) ns → Within count ns → RequiredLed count last k xs ns (xs ++ ns)
 
-pub more-required-only : (count k last : ℕ) (xs : List ℕ) {ns ys : List ℕ} → Leads (moreRequired count k last xs) ns (done ys) → RequiredLed count last k xs ns ys
+pub more-required-only : (count k last : ℕ) (xs : List ℕ) {ns ys : List ℕ} → Leads (moreRequired count k last xs) ns (done ys)
+    → RequiredLed count last k xs ns ys
 unfolding moreRequired
 more-required-only count zero last xs here =
     subst (RequiredLed count last 0 xs []) (append-nil xs) (required-led [] refl none (λ x m. absurd (List·Memᴰ·not-nil m)))
@@ -140,7 +142,8 @@ one-rule-only count {ns} l =
       is,
     )
 
-one-rule-if : (count : ℕ) (ru : Rule) → count ≤ 64 → RuleGood count ru → Leads (oneRule count) (ru .kind ∷ ru .left ∷ ru .right ∷ []) (done ru)
+one-rule-if : (count : ℕ) (ru : Rule) → count ≤ 64 → RuleGood count ru
+    → Leads (oneRule count) (ru .kind ∷ ru .left ∷ ru .right ∷ []) (done ru)
 unfolding oneRule ruleLeft ruleRight
 one-rule-if count ru few g =
     take {n = ru .kind} (omega (arith, g .known)) (between-passes 1 4 9 (ru .kind) (omega arith) .1 (g .some, omega (arith, g .known)))
@@ -154,14 +157,16 @@ rules-led-none : (count : ℕ) (rs : List Rule) → RulesLed count rs 0 [] rs
 unfolding ruleNumbers rulesPass
 rules-led-none count rs = subst (RulesLed count rs 0 []) (append-nil rs) (rules-led [] refl refl)
 
-rules-led-more : (count : ℕ) (rs : List Rule) (k : ℕ) (ru : Rule) {ns : List ℕ} {qs : List Rule} → RuleGood count ru → RulesLed count (rs ++ (ru ∷ [])) k ns qs
+rules-led-more : (count : ℕ) (rs : List Rule) (k : ℕ) (ru : Rule) {ns : List ℕ} {qs : List Rule} → RuleGood count ru
+    → RulesLed count (rs ++ (ru ∷ [])) k ns qs
     → RulesLed count rs (suc k) (ru .kind ∷ ru .left ∷ ru .right ∷ ns) qs
 unfolding ruleNumbers rulesPass
 rules-led-more count rs k ru g (rules-led more e t) =
     subst (RulesLed count rs (suc k) (ruleNumbers (ru ∷ more))) (sym (append-snoc rs ru more))
     (rules-led (ru ∷ more) (ap suc e) (both-made (rulePasses count ru) _ (rule-passes count ru .1 g) t))
 
-pub more-rules-only : (count k : ℕ) (rs : List Rule) {ns : List ℕ} {qs : List Rule} → Leads (moreRules count k rs) ns (done qs) → RulesLed count rs k ns qs
+pub more-rules-only : (count k : ℕ) (rs : List Rule) {ns : List ℕ} {qs : List Rule} → Leads (moreRules count k rs) ns (done qs)
+    → RulesLed count rs k ns qs
 unfolding moreRules
 more-rules-only count zero rs here = rules-led-none count rs
 more-rules-only count (suc k) rs {ns} {qs} l = by (leads-split (oneRule count) _ l) (λ r ms. more-rules-only count k (rs ++ (r ∷ [])))

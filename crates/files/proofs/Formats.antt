@@ -32,7 +32,7 @@ module _ {A : Type 0} (test : ℕ → ℕ) (next : ℕ → Format A) where
 
   -- the same in the bytes of the whole file
   pub run-on : (s : List ℕ) (at n size : ℕ) → numberIn (drop at s) ≡ Is n size → test n ≡ 0
-    → run (want test next) at (drop at s) ≡ run (next n) (at + size) (drop (at + size) s)
+      → run (want test next) at (drop at s) ≡ run (next n) (at + size) (drop (at + size) s)
   run-on s at n size e t = run-next at (drop at s) n size e t ∙ ap (run (next n) (at + size)) (drop-drop size at s)
 
 -- going on after an outcome, in the bytes of the whole file
@@ -76,8 +76,8 @@ list-many {A} one more base step s (suc k) l at r next e =
     (λ a. list-many one more base step s k (l ++ (a ∷ [])))
   where
     by : (o : Outcome A) → onward (λ a. more k (l ++ (a ∷ []))) s o ≡ got r next
-      → ((a : A) (at : ℕ) (r : List A) (next : ℕ) → run (more k (l ++ (a ∷ []))) at (drop at s) ≡ got r next → length r ≡ length (l ++ (a ∷ [])) + k)
-      → length r ≡ length l + suc k
+        → ((a : A) (at : ℕ) (r : List A) (next : ℕ) → run (more k (l ++ (a ∷ []))) at (drop at s) ≡ got r next → length r ≡ length (l ++ (a ∷ [])) + k)
+        → length r ≡ length l + suc k
     by (got a at′) f ih = ih a at′ r next f ∙ omega (arith, length-append l (a ∷ []))
     by (refused j place) f ih = absurd (let z : _≡_ {A = ℕ} 0 1 = cc in omega arith)
 

@@ -1,6 +1,6 @@
 -- Laws of numbers that lead through one format and then through another.
 use Prim.Native.Nat.{ℕ, _<_}
-use mathlib.Core.Path.{_≡_, refl, ap}
+use mathlib.Core.Path.{_≡_, refl}
 use mathlib.Core.List.{List, [], _∷_, _++_}
 use Rattle.files.specs.Number.{limit}
 use Rattle.files.specs.Format.{Format, done, want, andThen, Leads, here, take}
@@ -14,7 +14,8 @@ pub record Wanted {A : Type 0} (test : ℕ → ℕ) (next : ℕ → Format A) (a
   pub passes : test number ≡ 0
   pub leads : Leads (next number) rest (done a)
 
-pub leads-want : {A : Type 0} (test : ℕ → ℕ) (next : ℕ → Format A) {a : A} {ns : List ℕ} → Leads (want test next) ns (done a) → Wanted test next a ns
+pub leads-want : {A : Type 0} (test : ℕ → ℕ) (next : ℕ → Format A) {a : A} {ns : List ℕ} → Leads (want test next) ns (done a)
+    → Wanted test next a ns
 leads-want test next (take {n = n} {ns = ms} small ok l) =
     record { number = n; rest = ms; all = refl; small = small; passes = ok; leads = l }
 

@@ -2,6 +2,7 @@
 pub mod Collect
 pub mod Depths
 pub mod FileParts
+pub mod FileSizes
 pub mod Formats
 pub mod Leading
 pub mod Numbers
@@ -19,8 +20,10 @@ pub mod SetLowest
 pub mod SetMembers
 mod SetWords
 pub mod Stores
+pub mod TableStructs
 pub mod TableTests
 pub mod Tables
 pub mod Tester
 pub mod ValidTables
 pub mod Writer
+pub mod WritingJoins

@@ -107,6 +107,7 @@ number-bounds (b ∷ rest) n size e = by (ltb b 128) refl
   where
     Goal : Type 0
     Goal = (n < limit) × (1 ≤ size) × (size ≤ 2) × (size ≤ suc (length rest))
+
     two : (h m : ℕ) (t : Bool) → eqb h 0 ≡ t → (u : Bool) → ltb 127 h ≡ u → twoBytes b h ≡ Is n size → 1 ≤ m → (n < limit) × (1 ≤ size) × (size ≤ 2) × (size ≤ suc m)
     two h m true e u f g k = absurd (let a : Refused 2 ≡ Is n size = sym (two-zero b h (eqb-true h 0 e)) ∙ g in let z : _≡_ {A = ℕ} 0 1 = cc in omega arith)
     two h m false e true f g k =
@@ -117,9 +118,11 @@ number-bounds (b ∷ rest) n size e = by (ltb b 128) refl
         let bytes : 2 ≡ size = cc in
         let small : h ≤ 127 = ltb-false 127 h f in
         omega arith
+
     long : (rest′ : List ℕ) → secondIn b rest′ ≡ Is n size → (n < limit) × (1 ≤ size) × (size ≤ 2) × (size ≤ suc (length rest′))
     long [] g = absurd (let z : _≡_ {A = ℕ} 0 1 = cc in omega arith)
     long (h ∷ rest′) g = two h (suc (length rest′)) (eqb h 0) refl (ltb 127 h) refl g (omega arith)
+
     by : (t : Bool) → ltb b 128 ≡ t → Goal
     by true f =
         let a : Is b 1 ≡ Is n size = sym (in-short b rest (ltb-true b 128 f)) ∙ e in

@@ -1,8 +1,8 @@
 -- Laws of the tests of a table: what it says of each path and each rule that they hold, both ways.
-use Prim.Native.Nat.{ℕ, zero, suc, _+_, _<_, _≤_}
-use mathlib.Core.Path.{_≡_, refl, sym, ap, subst, _∙_}
+use Prim.Native.Nat.{ℕ, suc, _+_, _<_, _≤_}
+use mathlib.Core.Path.{_≡_, refl, ap}
 use mathlib.Core.Logic.{_↔_}
-use mathlib.Core.Bool.{Bool, true, false, cond, false≢true}
+use mathlib.Core.Bool.{Bool, true, false, false≢true}
 use mathlib.Core.List.{List, [], _∷_, _++_, append-nil}
 use native.Mathlib.Omega.{arith}
 use lib.ListN.{length, getD}
@@ -52,19 +52,22 @@ path-passes ps p = (only, made)
         (both-made _ _ (eq-eqb again 0 (g .new)) (lt-ltb (p .label) limit (g .label)))
 
 -- paths pass exactly where each of them passes after those before it
-pub paths-each : (ps before : List Path) (p : Path) (after : List Path) → pathsPass ps (before ++ (p ∷ after)) ≡ true → PathGood (ps ++ before) p
+pub paths-each : (ps before : List Path) (p : Path) (after : List Path) → pathsPass ps (before ++ (p ∷ after)) ≡ true
+    → PathGood (ps ++ before) p
 unfolding pathsPass
 paths-each ps [] p after e = rw (append-nil ps) (path-passes ps p .0 (both-true (pathPasses ps p) _ e .0))
 paths-each ps (q ∷ before) p after e =
     rw (← append-snoc ps q before) (paths-each (ps ++ (q ∷ [])) before p after (both-true (pathPasses ps q) _ e .1))
 
-pub paths-made : (ps rest : List Path) → ((before : List Path) (p : Path) (after : List Path) → rest ≡ before ++ (p ∷ after) → PathGood (ps ++ before) p)
+pub paths-made : (ps rest : List Path)
+    → ((before : List Path) (p : Path) (after : List Path) → rest ≡ before ++ (p ∷ after) → PathGood (ps ++ before) p)
     → pathsPass ps rest ≡ true
 unfolding pathsPass
 paths-made ps [] f = refl
 paths-made ps (p ∷ rest) f =
     both-made _ _ (path-passes ps p .1 (rw (append-nil ps) at (f [] p rest refl)))
-    (paths-made (ps ++ (p ∷ [])) rest (λ before q after e. rw (append-snoc ps p before) (f (p ∷ before) q after (ap (λ (l : List Path). p ∷ l) e))))
+    (paths-made (ps ++ (p ∷ [])) rest
+    (λ before q after e. rw (append-snoc ps p before) (f (p ∷ before) q after (ap (λ (l : List Path). p ∷ l) e))))
 
 -- a rule that passes in a table of `count` paths
 pub record RuleGood (count : ℕ) (ru : Rule) : Type 0 where

@@ -20,6 +20,7 @@ use Rattle.files.specs.Reading.{passed, tested, pathAnswer}
 use Rattle.files.proofs.Formats.{run-bad, run-own, run-next, run-on}
 use Rattle.files.proofs.Numbers.{place-fits}
 use Rattle.files.proofs.Padded.{padded-get}
+use Rattle.files.proofs.Tables.{paths-length}
 
 -- a number between two others passes, one outside meets its refusal
 pub between-low : (low past k n : ℕ) → n < low → between low past k n ≡ k
@@ -135,7 +136,7 @@ module _ (depth : List ℕ) (ps : List Path) (p : ℕ) (s : List ℕ) (at : ℕ)
         rw (run-own {A = Path} (labelTest ps p) (λ l. done (record { parent = p; label = l })) at (drop at s) l size 5 (sym e ∙ f) (rw (← g, h)))
 
     pub label-is : (own x : ℕ) → t ≡ false → p < own → own ≤ 64 → x ≡ p
-      → OnePath.Is (p % 256) l (getD depth x 0 + 1) (at + size) ≡ pathAnswer depth (run (pathLabel ps p) at (drop at s))
+        → OnePath.Is (p % 256) l (getD depth x 0 + 1) (at + size) ≡ pathAnswer depth (run (pathLabel ps p) at (drop at s))
     unfolding pathAnswer pathLabel labelTest run
     label-is own x h small most same =
         let a : p % 256 ≡ p = omega arith in
@@ -143,11 +144,6 @@ module _ (depth : List ℕ) (ps : List Path) (p : ℕ) (s : List ℕ) (at : ℕ)
         rw (run-next {A = Path} (labelTest ps p) (λ l. done (record { parent = p; label = l })) at (drop at s) l size (sym e ∙ f) (rw (← g, h)), a, b)
 
 pub ruleset label-laws = (label-bad, label-repeats, label-is, depth-fits, place-fits)
-
-pub paths-length : (parent label : List ℕ) (x k : ℕ) → length (pathsFrom parent label x k) ≡ k
-unfolding pathsFrom
-paths-length parent label x zero = refl
-paths-length parent label x (suc k) = ap suc (paths-length parent label (x + 1) k)
 
 -- a parent that passes is below its path's number and not too deep
 parent-passed : (depth : List ℕ) (own p w : ℕ) → w ≡ parentTest depth own p → w ≤ 0 → (p < own) × (getD depth p 0 < 8)
@@ -190,7 +186,7 @@ module _ (depth : List ℕ) (ps : List Path) (s : List ℕ) (at : ℕ) (r : Numb
         (parent-padded ps depth own p known has ∙ sym g ∙ j)))
 
     pub path-on : (q : OnePath) → w ≤ 0 → q ≡ pathAnswer depth (run (pathLabel ps p) (at + size) (drop (at + size) s))
-      → q ≡ pathAnswer depth (run (onePath ps) at (drop at s))
+        → q ≡ pathAnswer depth (run (onePath ps) at (drop at s))
     unfolding pathAnswer onePath
     path-on q h i = i ∙ ap (pathAnswer depth) (sym (run-on {A = Path} (parentTest (depths ps) (1 + length ps)) (λ p. pathLabel ps p) s at p size (sym e ∙ f)
         (parent-padded ps depth own p known has ∙ sym g ∙ omega arith)))

@@ -27,10 +27,11 @@ use Rattle.files.proofs.ReaderRules.{run-refused, run-taken, tested-fit
 
 pub refuse-is : (k at : ℕ)
     → _≡_ {A = Reading}
-      (record { answer = Answer.Refused k at
-      ; rules = record { paths = 1; parent = replicate 64 0; label = replicate 64 0; required = 0; rules = 0; kind = replicate 256 0; left = replicate 256 0; right = replicate 256 0 }
-      })
-      (readingOf (refused k at))
+    (record {
+      answer = Answer.Refused k at;
+      rules = record { paths = 1; parent = replicate 64 0; label = replicate 64 0; required = 0; rules = 0; kind = replicate 256 0; left = replicate 256 0; right = replicate 256 0 };
+    })
+    (readingOf (refused k at))
 unfolding readingOf tableOf noRules padded addAll
 refuse-is k at = refl
 
@@ -55,7 +56,7 @@ module _ {A : Type 0} (f : Format A) (g : A → Format RuleSet) (s : List ℕ) (
   then-refused e h = ends-refused (length s) _ r (run-then f g s at ∙ ap (onward g s) e) h
 
   then-got : {a : A} {next : ℕ} → run f at (drop at s) ≡ got a next → r ≡ readingOf (atEnd (length s) (run (g a) next (drop next s)))
-    → r ≡ readingOf (atEnd (length s) (run (andThen f g) at (drop at s)))
+      → r ≡ readingOf (atEnd (length s) (run (andThen f g) at (drop at s)))
   unfolding onward
   then-got e h = h ∙ ap (λ (o : Outcome RuleSet). readingOf (atEnd (length s) o)) (sym (run-then f g s at ∙ ap (onward g s) e))
 
@@ -97,21 +98,21 @@ module _ (s : List ℕ) (at many count : ℕ) (parent label : List ℕ) (require
 
   -- the format of the rules, with the count as the code has it
   to-end : (r : Reading) → r ≡ readingOf (atEnd (length s) (run (andThen (moreRules count many []) (λ rs. done (set-of rs))) at (drop at s)))
-    → r ≡ readingOf (atEnd (length s) (run (rulesToEnd root ps req many) at (drop at s)))
+      → r ≡ readingOf (atEnd (length s) (run (rulesToEnd root ps req many) at (drop at s)))
   unfolding rulesToEnd set-of
   to-end r h =
       h ∙ ap (λ (n : ℕ). readingOf (atEnd (length s) (run (andThen (moreRules n many []) (λ rs. done (set-of rs))) at (drop at s)))) (sym (paths .many))
 
   module _ (list : RuleList) (e : list ≡ ruleListAnswer (run (moreRules count many []) at (drop at s))) (r : Reading) where
     pub to-end-refused : {k place : ℕ} → list .end ≡ Section.Refused k place → r ≡ readingOf (refused k place)
-      → r ≡ readingOf (atEnd (length s) (run (rulesToEnd root ps req many) at (drop at s)))
+        → r ≡ readingOf (atEnd (length s) (run (rulesToEnd root ps req many) at (drop at s)))
     to-end-refused {k} {place} f h =
         to-end r (then-refused (moreRules count many []) (λ rs. done (set-of rs)) s at r (rules-refused _ list k place e f) h)
 
     pub to-end-read : {next : ℕ} (n : ℕ) → n ≡ count → many ≤ 256 → list .end ≡ Section.Read next
-      → ((q : RuleSet) → _≡_ {A = Rules} (record { paths = n; parent = parent; label = label; required = required; rules = many; kind = list .kind; left = list .left; right = list .right }) (tableOf q)
+        → ((q : RuleSet) → _≡_ {A = Rules} (record { paths = n; parent = parent; label = label; required = required; rules = many; kind = list .kind; left = list .left; right = list .right }) (tableOf q)
         → r ≡ readingOf (atEnd (length s) (got q next)))
-      → r ≡ readingOf (atEnd (length s) (run (rulesToEnd root ps req many) at (drop at s)))
+        → r ≡ readingOf (atEnd (length s) (run (rulesToEnd root ps req many) at (drop at s)))
     unfolding tableOf set-of run
     to-end-read {next} n same most f h =
         let g : RulesGot (run (moreRules count many []) at (drop at s)) list next = rules-got _ list next e f in
@@ -163,7 +164,7 @@ module _ (s : List ℕ) (at : ℕ) (r : Reading) where
     count-bad f h = ends-refused (length s) _ r (run-refused (between 0 257 8) (λ k. rulesToEnd root ps req k) s at m e f) h
 
     pub count-is : {n size : ℕ} (w : ℕ) → w ≡ n → m ≡ Is n size → r ≡ readingOf (atEnd (length s) (run (rulesToEnd root ps req w) (at + size) (drop (at + size) s)))
-      → r ≡ readingOf (atEnd (length s) (run (afterRequired root ps req) at (drop at s)))
+        → r ≡ readingOf (atEnd (length s) (run (afterRequired root ps req) at (drop at s)))
     unfolding afterRequired
     count-is {n} {size} w i f h =
         h ∙ ap (λ (k : ℕ). readingOf (atEnd (length s) (run (rulesToEnd root ps req k) (at + size) (drop (at + size) s)))) i
@@ -173,7 +174,7 @@ module _ (s : List ℕ) (at : ℕ) (r : Reading) where
   module _ (count : ℕ) (parent label : List ℕ) (root : ℕ) (ps : List Path) (paths : PathsIn count parent label root ps) (many : ℕ) (m : Required)
       (e : m ≡ requiredAnswer (run (moreRequired count many 0 []) at (drop at s))) where
     on : r ≡ readingOf (atEnd (length s) (run (andThen (moreRequired count many 0 []) (λ req. afterRequired root ps req)) at (drop at s)))
-      → r ≡ readingOf (atEnd (length s) (run (requiredOn root ps many) at (drop at s)))
+        → r ≡ readingOf (atEnd (length s) (run (requiredOn root ps many) at (drop at s)))
     unfolding requiredOn
     on h = h ∙ ap (λ (n : ℕ). readingOf (atEnd (length s) (run (andThen (moreRequired n many 0 []) (λ req. afterRequired root ps req)) at (drop at s)))) (sym (paths .many))
 
@@ -196,8 +197,8 @@ module _ (s : List ℕ) (at : ℕ) (r : Reading) where
     on-refused f h = on (then-refused (moreRequired count many 0 []) (λ req. afterRequired root ps req) s at r (required-out _ (sym f ∙ e)) h)
 
     pub on-is : {w next : ℕ} → m ≡ Required.Is w next
-      → ((root : ℕ) (ps : List Path) (req : List ℕ) → PathsIn count parent label root ps → w ≡ addAll 0 req → r ≡ readingOf (atEnd (length s) (run (afterRequired root ps req) next (drop next s))))
-      → r ≡ readingOf (atEnd (length s) (run (requiredOn root ps many) at (drop at s)))
+        → ((root : ℕ) (ps : List Path) (req : List ℕ) → PathsIn count parent label root ps → w ≡ addAll 0 req → r ≡ readingOf (atEnd (length s) (run (afterRequired root ps req) next (drop next s))))
+        → r ≡ readingOf (atEnd (length s) (run (requiredOn root ps many) at (drop at s)))
     on-is {w} {next} f h =
         let g : (xs : List ℕ) × (run (moreRequired count many 0 []) at (drop at s) ≡ got xs next) × (w ≡ addAll 0 xs) = required-in _ (sym f ∙ e) in
         on (then-got (moreRequired count many 0 []) (λ req. afterRequired root ps req) s at r (g .1) (h root ps (g .0) paths (g .2)))
@@ -216,7 +217,7 @@ module _ (s : List ℕ) (at : ℕ) (r : Reading) where
     paths-bad root ps f h = any-bad (λ k. requiredOn root ps k) m e f h
 
     pub paths-is : {n size : ℕ} (root : ℕ) (ps : List Path) → m ≡ Is n size → r ≡ readingOf (atEnd (length s) (run (requiredOn root ps n) (at + size) (drop (at + size) s)))
-      → r ≡ readingOf (atEnd (length s) (run (afterPaths root ps) at (drop at s)))
+        → r ≡ readingOf (atEnd (length s) (run (afterPaths root ps) at (drop at s)))
     unfolding afterPaths
     paths-is root ps f h = any-is (λ k. requiredOn root ps k) m e f h
 
@@ -225,7 +226,7 @@ module _ (s : List ℕ) (at : ℕ) (r : Reading) where
     root-bad count f h = any-bad (λ root. afterRoot count root) m e f h
 
     pub root-is : {n size : ℕ} (count : ℕ) → m ≡ Is n size → r ≡ readingOf (atEnd (length s) (run (afterRoot count n) (at + size) (drop (at + size) s)))
-      → r ≡ readingOf (atEnd (length s) (run (afterCount count) at (drop at s)))
+        → r ≡ readingOf (atEnd (length s) (run (afterCount count) at (drop at s)))
     unfolding afterCount
     root-is count f h = any-is (λ root. afterRoot count root) m e f h
 
@@ -242,8 +243,8 @@ module _ (s : List ℕ) (at : ℕ) (r : Reading) where
         by o g = paths-out root o m g f
 
     pub table-is : {next : ℕ} → m .end ≡ Section.Read next
-      → ((root : ℕ) (ps : List Path) → PathsIn count (m .parent) (m .label) root ps → r ≡ readingOf (atEnd (length s) (run (afterPaths root ps) next (drop next s))))
-      → r ≡ readingOf (atEnd (length s) (run (afterRoot count root) at (drop at s)))
+        → ((root : ℕ) (ps : List Path) → PathsIn count (m .parent) (m .label) root ps → r ≡ readingOf (atEnd (length s) (run (afterPaths root ps) next (drop next s))))
+        → r ≡ readingOf (atEnd (length s) (run (afterRoot count root) at (drop at s)))
     unfolding afterRoot
     table-is {next} f h =
         let g : PathsGot root (run (morePaths (c - 1) []) at (drop at s)) m next = paths-in root _ m e f in

@@ -14,7 +14,8 @@ use Rattle.files.specs.Rules.{pathsFrom, padded}
 use Rattle.files.specs.Reading.{pathAnswer, pathsAnswer}
 use Rattle.files.proofs.Formats.{onward, run-then}
 use Rattle.files.proofs.Padded.{padded-get, padded-store}
-use Rattle.files.proofs.Tables.{map-snoc, depths-snoc, depths-length, paths-padded}
+use Rattle.files.proofs.Depths.{depths-snoc, depths-length}
+use Rattle.files.proofs.Tables.{map-snoc, paths-padded}
 
 -- paths 1 to x - 1 are in the arrays, and reading goes on at `next`
 pub record PathsSoFar (s : List ℕ) (at count root : ℕ) (parent label depth : List ℕ) (next x : ℕ) : Type 0 where
@@ -61,7 +62,7 @@ module _ (s : List ℕ) (at count root : ℕ) (parent label depth : List ℕ) (n
 
   -- while paths are left, what remains is a path and what remains after it
   one-more : x < count → run (morePaths (count - x) (inv .ps)) next (drop next s)
-    ≡ onward (λ p. morePaths (count - (x + 1)) (inv .ps ++ (p ∷ []))) s (run (onePath (inv .ps)) next (drop next s))
+      ≡ onward (λ p. morePaths (count - (x + 1)) (inv .ps ++ (p ∷ []))) s (run (onePath (inv .ps)) next (drop next s))
   unfolding morePaths
   one-more h =
       let e : count - x ≡ suc (count - (x + 1)) = omega arith in
@@ -74,7 +75,7 @@ module _ (s : List ℕ) (at count root : ℕ) (parent label depth : List ℕ) (n
     here q f = sym f ∙ e ∙ ap (λ (ps : List Path). pathAnswer depth (run (onePath ps) next (drop next s))) same-paths
 
     pub paths-refused : {k place : ℕ} → r ≡ OnePath.Refused k place
-      → _≡_ {A = Paths} (record { end = Section.Refused k place; parent = replicate 64 0; label = replicate 64 0 })
+        → _≡_ {A = Paths} (record { end = Section.Refused k place; parent = replicate 64 0; label = replicate 64 0 })
         (pathsAnswer root (run (morePaths (count - 1) []) at (drop at s)))
     unfolding pathsAnswer padded onward
     paths-refused {k} {place} f =
@@ -83,29 +84,29 @@ module _ (s : List ℕ) (at count root : ℕ) (parent label depth : List ℕ) (n
         (sym (sym (inv .rest) ∙ one-more left ∙ ap (onward (λ p. morePaths (count - (x + 1)) (inv .ps ++ (p ∷ []))) s) o))
 
     pub paths-more : {p l d after : ℕ} → r ≡ OnePath.Is p l d after
-      → PathsSoFar s at count root (set parent x p) (set label x l) (set depth x d) after (x + 1)
+        → PathsSoFar s at count root (set parent x p) (set label x l) (set depth x d) after (x + 1)
     unfolding onward
     paths-more {p} {l} {d} {after} f =
         let q : Path = record { parent = p; label = l } in
         let o : (run (onePath (inv .ps)) next (drop next s) ≡ got q after) × (d ≡ 1 + getD depth p 0) = path-got depth _ p l d after (here _ f) in
         let deep : d ≡ 1 + getD (depths (inv .ps)) p 0 = o .1 ∙ ap (λ (t : List ℕ). 1 + getD t p 0) (inv .in-depth) ∙ ap (λ (k : ℕ). 1 + k) (padded-get 64 (depths (inv .ps)) p) in
-        record
-        { ps = inv .ps ++ (q ∷ [])
-        ; paths = omega (arith, length-append (inv .ps) (q ∷ []), inv .paths)
-        ; most = omega arith
-        ; in-parent =
-          rw (inv .in-parent)
-          (padded-store 64 (parents (inv .ps)) x p (omega (arith, length-map (inv .ps) (λ (t : Path). t .parent), inv .paths)) (omega arith)
-          ∙ ap (λ (t : List ℕ). padded 64 (0 ∷ t)) (sym (map-snoc (λ (t : Path). t .parent) (inv .ps) q)))
-        ; in-label =
-          rw (inv .in-label)
-          (padded-store 64 (labels root (inv .ps)) x l (omega (arith, length-map (inv .ps) (λ (t : Path). t .label), inv .paths)) (omega arith)
-          ∙ ap (λ (t : List ℕ). padded 64 (root ∷ t)) (sym (map-snoc (λ (t : Path). t .label) (inv .ps) q)))
-        ; in-depth =
-          rw (inv .in-depth, deep)
-          (padded-store 64 (depths (inv .ps)) x _ (omega (arith, depths-length (inv .ps), inv .paths)) (omega arith)
-          ∙ ap (padded 64) (sym (depths-snoc (inv .ps) q)))
-        ; rest = sym (sym (inv .rest) ∙ one-more left ∙ ap (onward (λ t. morePaths (count - (x + 1)) (inv .ps ++ (t ∷ []))) s) (o .0))
+        record {
+          ps = inv .ps ++ (q ∷ []);
+          paths = omega (arith, length-append (inv .ps) (q ∷ []), inv .paths);
+          most = omega arith;
+          in-parent =
+              rw (inv .in-parent)
+              (padded-store 64 (parents (inv .ps)) x p (omega (arith, length-map (inv .ps) (λ (t : Path). t .parent), inv .paths)) (omega arith)
+              ∙ ap (λ (t : List ℕ). padded 64 (0 ∷ t)) (sym (map-snoc (λ (t : Path). t .parent) (inv .ps) q)));
+          in-label =
+              rw (inv .in-label)
+              (padded-store 64 (labels root (inv .ps)) x l (omega (arith, length-map (inv .ps) (λ (t : Path). t .label), inv .paths)) (omega arith)
+              ∙ ap (λ (t : List ℕ). padded 64 (root ∷ t)) (sym (map-snoc (λ (t : Path). t .label) (inv .ps) q)));
+          in-depth =
+              rw (inv .in-depth, deep)
+              (padded-store 64 (depths (inv .ps)) x _ (omega (arith, depths-length (inv .ps), inv .paths)) (omega arith)
+              ∙ ap (padded 64) (sym (depths-snoc (inv .ps) q)));
+          rest = sym (sym (inv .rest) ∙ one-more left ∙ ap (onward (λ t. morePaths (count - (x + 1)) (inv .ps ++ (t ∷ []))) s) (o .0));
         }
 
   pub paths-end : count ≤ x → _≡_ {A = Paths} (record { end = Section.Read next; parent = parent; label = label }) (pathsAnswer root (run (morePaths (count - 1) []) at (drop at s)))

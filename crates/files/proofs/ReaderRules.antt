@@ -104,7 +104,7 @@ module _ (count : ℕ) (s : List ℕ) (at : ℕ) (r : Number) where
     left-bad f = ap ruleAnswer (sym (run-refused {A = Rule} (between 0 count 10) (λ l. ruleRight count kind l) s at r e f))
 
     pub left-is : {n size : ℕ} (q : OneRule) → count ≤ 64 → r ≡ Is n size → q ≡ ruleAnswer (run (ruleRight count kind (n % 256)) (at + size) (drop (at + size) s))
-      → q ≡ ruleAnswer (run (ruleLeft count kind) at (drop at s))
+        → q ≡ ruleAnswer (run (ruleLeft count kind) at (drop at s))
     unfolding ruleLeft
     left-is {n} {size} q h f g =
         let b : (0 ≤ n) × (n < count) = between-taken 0 count 10 s at n size r (omega arith) e f in
@@ -118,7 +118,7 @@ module _ (count : ℕ) (s : List ℕ) (at : ℕ) (r : Number) where
     kind-bad f = ap ruleAnswer (sym (run-refused {A = Rule} (between 1 4 9) (λ k. ruleLeft count k) s at r e f))
 
     pub kind-is : {n size : ℕ} (q : OneRule) → r ≡ Is n size → q ≡ ruleAnswer (run (ruleLeft count (n % 256)) (at + size) (drop (at + size) s))
-      → q ≡ ruleAnswer (run (oneRule count) at (drop at s))
+        → q ≡ ruleAnswer (run (oneRule count) at (drop at s))
     unfolding oneRule
     kind-is {n} {size} q f g =
         let b : (1 ≤ n) × (n < 4) = between-taken 1 4 9 s at n size r (omega arith) e f in
@@ -146,7 +146,7 @@ required-start s at count many = record { xs = []; in-set = refl; small = omega 
 
 module _ (s : List ℕ) (at count many set last next left : ℕ) (inv : RequiredSoFar s at count many set last next left) where
   wanted : (r : Number) → 0 < left → run (moreRequired count left last (inv .xs)) next (drop next s)
-    ≡ run (want (between (last + 1) count 7) (λ x. moreRequired count (left - 1) x (inv .xs ++ (x ∷ [])))) next (drop next s)
+      ≡ run (want (between (last + 1) count 7) (λ x. moreRequired count (left - 1) x (inv .xs ++ (x ∷ [])))) next (drop next s)
   unfolding moreRequired
   wanted r h =
       let e : left ≡ suc (left - 1) = omega arith in
@@ -164,11 +164,11 @@ module _ (s : List ℕ) (at count many set last next left : ℕ) (inv : Required
     pub required-more : {n size : ℕ} (x w : ℕ) → count ≤ 64 → r ≡ Is n size → x ≡ n → w ≡ withPath set x → RequiredSoFar s at count many w n (next + size) (left - 1)
     required-more {n} {size} x w small f g i =
         let b : (last + 1 ≤ n) × (n < count) = between-taken (last + 1) count 7 s next n size r (omega arith) e f in
-        record
-        { xs = inv .xs ++ (n ∷ [])
-        ; in-set = i ∙ ap₂ withPath (inv .in-set) g ∙ sym (add-snoc 0 (inv .xs) n)
-        ; small = omega arith
-        ; rest = sym (sym (inv .rest) ∙ wanted r h ∙ run-taken (between (last + 1) count 7) (λ x. moreRequired count (left - 1) x (inv .xs ++ (x ∷ []))) s next r e f)
+        record {
+          xs = inv .xs ++ (n ∷ []);
+          in-set = i ∙ ap₂ withPath (inv .in-set) g ∙ sym (add-snoc 0 (inv .xs) n);
+          small = omega arith;
+          rest = sym (sym (inv .rest) ∙ wanted r h ∙ run-taken (between (last + 1) count 7) (λ x. moreRequired count (left - 1) x (inv .xs ++ (x ∷ []))) s next r e f);
         }
 
   pub required-end : left ≤ 0 → Required.Is set next ≡ requiredAnswer (run (moreRequired count many 0 []) at (drop at s))
@@ -193,14 +193,14 @@ pub record RulesSoFar (s : List ℕ) (at count many : ℕ) (kind left right : Li
 pub rules-start : (s : List ℕ) (at count many : ℕ) → RulesSoFar s at count many (replicate 256 0) (replicate 256 0) (replicate 256 0) at 0
 unfolding padded
 rules-start s at count many =
-    record
-    { rs = []
-    ; rules = refl
-    ; most = omega arith
-    ; in-kind = refl
-    ; in-left = refl
-    ; in-right = refl
-    ; rest = let e : many - 0 ≡ many = omega arith in ap (λ (k : ℕ). run (moreRules count k []) at (drop at s)) e
+    record {
+      rs = [];
+      rules = refl;
+      most = omega arith;
+      in-kind = refl;
+      in-left = refl;
+      in-right = refl;
+      rest = let e : many - 0 ≡ many = omega arith in ap (λ (k : ℕ). run (moreRules count k []) at (drop at s)) e;
     }
 
 -- a rule's answer taken apart
@@ -232,7 +232,7 @@ field-more f rs q l i e n h =
 
 module _ (s : List ℕ) (at count many : ℕ) (kind left right : List ℕ) (next i : ℕ) (inv : RulesSoFar s at count many kind left right next i) where
   one-more : i < many → run (moreRules count (many - i) (inv .rs)) next (drop next s)
-    ≡ onward (λ ru. moreRules count (many - (i + 1)) (inv .rs ++ (ru ∷ []))) s (run (oneRule count) next (drop next s))
+      ≡ onward (λ ru. moreRules count (many - (i + 1)) (inv .rs ++ (ru ∷ []))) s (run (oneRule count) next (drop next s))
   unfolding moreRules
   one-more h =
       let e : many - i ≡ suc (many - (i + 1)) = omega arith in
@@ -241,7 +241,7 @@ module _ (s : List ℕ) (at count many : ℕ) (kind left right : List ℕ) (next
 
   module _ (more : i < many) (fits : many ≤ 256) (r : OneRule) (e : r ≡ ruleAnswer (run (oneRule count) next (drop next s))) where
     pub rules-refused : {k place : ℕ} → r ≡ OneRule.Refused k place
-      → _≡_ {A = RuleList} (record { end = Section.Refused k place; kind = replicate 256 0; left = replicate 256 0; right = replicate 256 0 })
+        → _≡_ {A = RuleList} (record { end = Section.Refused k place; kind = replicate 256 0; left = replicate 256 0; right = replicate 256 0 })
         (ruleListAnswer (run (moreRules count many []) at (drop at s)))
     unfolding ruleListAnswer padded onward
     rules-refused {k} {place} f =
@@ -249,24 +249,24 @@ module _ (s : List ℕ) (at count many : ℕ) (kind left right : List ℕ) (next
         (sym (sym (inv .rest) ∙ one-more more ∙ ap (onward (λ ru. moreRules count (many - (i + 1)) (inv .rs ++ (ru ∷ []))) s) (rule-refused _ k place (sym f ∙ e))))
 
     pub rules-more : {k l t after : ℕ} → r ≡ OneRule.Is k l t after
-      → RulesSoFar s at count many (set kind i k) (set left i l) (set right i t) after (i + 1)
+        → RulesSoFar s at count many (set kind i k) (set left i l) (set right i t) after (i + 1)
     unfolding onward
     rules-more {k} {l} {t} {after} f =
         let q : Rule = record { kind = k; left = l; right = t } in
         let o : run (oneRule count) next (drop next s) ≡ got q after = rule-got _ k l t after (sym f ∙ e) in
         let room : i < 256 = omega arith in
-        record
-        { rs = inv .rs ++ (q ∷ [])
-        ; rules = omega (arith, length-append (inv .rs) (q ∷ []), inv .rules)
-        ; most = omega arith
-        ; in-kind = field-more (λ (ru : Rule). ru .kind) (inv .rs) q kind i (inv .in-kind) (inv .rules) room
-        ; in-left = field-more (λ (ru : Rule). ru .left) (inv .rs) q left i (inv .in-left) (inv .rules) room
-        ; in-right = field-more (λ (ru : Rule). ru .right) (inv .rs) q right i (inv .in-right) (inv .rules) room
-        ; rest = sym (sym (inv .rest) ∙ one-more more ∙ ap (onward (λ ru. moreRules count (many - (i + 1)) (inv .rs ++ (ru ∷ []))) s) o)
+        record {
+          rs = inv .rs ++ (q ∷ []);
+          rules = omega (arith, length-append (inv .rs) (q ∷ []), inv .rules);
+          most = omega arith;
+          in-kind = field-more (λ (ru : Rule). ru .kind) (inv .rs) q kind i (inv .in-kind) (inv .rules) room;
+          in-left = field-more (λ (ru : Rule). ru .left) (inv .rs) q left i (inv .in-left) (inv .rules) room;
+          in-right = field-more (λ (ru : Rule). ru .right) (inv .rs) q right i (inv .in-right) (inv .rules) room;
+          rest = sym (sym (inv .rest) ∙ one-more more ∙ ap (onward (λ ru. moreRules count (many - (i + 1)) (inv .rs ++ (ru ∷ []))) s) o);
         }
 
   pub rules-end : many ≤ i → _≡_ {A = RuleList} (record { end = Section.Read next; kind = kind; left = left; right = right })
-    (ruleListAnswer (run (moreRules count many []) at (drop at s)))
+      (ruleListAnswer (run (moreRules count many []) at (drop at s)))
   unfolding ruleListAnswer moreRules run
   rules-end h =
       let e : many - i ≡ 0 = omega arith in

@@ -42,12 +42,12 @@ module _ (s : List ℕ) (bs : Bytes s) (r : Reading) (e : r ≡ readAnswer s) wh
   pub reads-rules : ReadRules s r
   unfolding readingOf
   reads-rules =
-      record
-      { answer = e
-      ; accepted = was-accepted (runAll ruleFile s) refl (by-outcome _ refl)
-      ; accepts = λ q v f. by-outcome _ (ap (runAll ruleFile) f ∙ written-reads q v)
-      ; refused = λ k at. was-refused (runAll ruleFile s) k at refl (by-outcome _ refl)
-      ; refuses = λ k at h. by-outcome _ (refused-if ruleFile s k at h)
+      record {
+        answer = e;
+        accepted = was-accepted (runAll ruleFile s) refl (by-outcome _ refl);
+        accepts = λ q v f. by-outcome _ (ap (runAll ruleFile) f ∙ written-reads q v);
+        refused = λ k at. was-refused (runAll ruleFile s) k at refl (by-outcome _ refl);
+        refuses = λ k at h. by-outcome _ (refused-if ruleFile s k at h);
       }
 
 -- the law in the words of the code, where each byte of the slice is known to fit

@@ -1,14 +1,13 @@
 -- Refusals 3 to 10: each number's own test answers its refusal exactly when that row of 01's table says so.
 use Prim.Native.Nat.{ℕ, zero, suc, _+_, _<_, _≤_}
-use mathlib.Core.Path.{_≡_, refl, sym, ap, subst, _∙_}
+use mathlib.Core.Path.{_≡_, refl, sym, subst, _∙_}
 use mathlib.Core.Logic.{_↔_, _≢_, _⊎_, inl, inr, ⊎-elim}
 use mathlib.Core.Bool.{Bool, true, false, cond, false≢true}
 use mathlib.Core.List.{List, [], _∷_, map}
 use native.Mathlib.Decide.{decLt, ℕ-discrete}
 use native.Mathlib.Omega.{arith}
 use lib.ListN.{length, getD}
-use lib.Dec.{ltb, eqb}
-use borrow.Author.Tests.{lt-ltb, le-ltb, eq-eqb, ltb-true, ltb-false, eqb-true}
+use borrow.Author.Tests.{lt-ltb, le-ltb, eq-eqb, eqb-true}
 use Rattle.files.specs.RuleFile.{between, depths, parentTest, sameChild, repeats, labelTest}
 use Rattle.files.specs.Table.{Path, parents, labels, parentIn, Depth}
 use Rattle.files.proofs.Depths.{Smaller, depth-only, depth-is}
@@ -36,7 +35,8 @@ between-passes low past k n some = (by (decLt n low) (decLt n past), λ h. betwe
     by (no h) (no l) e = absurd (omega (arith, between-past low past k n (omega arith) (omega arith)))
 
 -- the row of a number that has to stand from `low` up to and without `past`, its condition said in other words
-pub row-between : (low past k n : ℕ) (condition : Type 0) → 0 < k → (n < low → condition) → (past ≤ n → condition) → (low ≤ n → n < past → ¬ condition)
+pub row-between : (low past k n : ℕ) (condition : Type 0) → 0 < k → (n < low → condition) → (past ≤ n → condition)
+    → (low ≤ n → n < past → ¬ condition)
     → Row k (between low past k n) condition
 row-between low past k n condition some under over inside = row-of k (between low past k n) condition some (by (decLt n low) (decLt n past))
   where
@@ -64,7 +64,8 @@ row-8 n = row-between 0 257 8 n (256 < n) (omega arith) (λ h. omega arith) (λ 
 -- 9: rule kind not 1, 2, 3
 pub row-9 : (k : ℕ) → Row 9 (between 1 4 9 k) ((k ≢ 1) × (k ≢ 2) × (k ≢ 3))
 row-9 k =
-    row-between 1 4 9 k ((k ≢ 1) × (k ≢ 2) × (k ≢ 3)) (omega arith) (λ h. omega arith) (λ h. omega arith) (λ h l m. omega (arith, m .0, m .1, m .2))
+    row-between 1 4 9 k ((k ≢ 1) × (k ≢ 2) × (k ≢ 3)) (omega arith) (λ h. omega arith) (λ h. omega arith)
+    (λ h l m. omega (arith, m .0, m .1, m .2))
 
 -- 10: rule path not in the table
 pub row-10 : (count x : ℕ) → Row 10 (between 0 count 10 x) (count ≤ x)
@@ -173,7 +174,8 @@ module _ (root p l : ℕ) where
           record { path = 1; other = omega arith; earlier = omega arith; parent = same .0; label = same .1 }
       by false t e′ ih = repeated-later q ps (ih e′)
 
-  repeats-at : (ps : List Path) (i : ℕ) → i < length ps → getD (map (λ (q : Path). q .parent) ps) i 0 ≡ p → getD (map (λ (q : Path). q .label) ps) i 0 ≡ l
+  repeats-at : (ps : List Path) (i : ℕ) → i < length ps → getD (map (λ (q : Path). q .parent) ps) i 0 ≡ p
+      → getD (map (λ (q : Path). q .label) ps) i 0 ≡ l
       → repeats ps p l ≡ true
   unfolding repeats
   repeats-at [] i h e f = absurd (omega arith)

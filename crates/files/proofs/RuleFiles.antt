@@ -1,19 +1,19 @@
 -- The rule file: bytes are accepted exactly if they are the file of a valid rule set, and it is that one.
-use Prim.Native.Nat.{ℕ, zero, suc, _+_, _-_, _<_, _≤_}
-use mathlib.Core.Path.{_≡_, refl, sym, ap, subst, _∙_}
+use Prim.Native.Nat.{ℕ, _+_, _-_, _<_, _≤_}
+use mathlib.Core.Path.{_≡_, refl, ap, subst, _∙_}
 use mathlib.Core.Logic.{_↔_}
 use mathlib.Core.Bool.{true}
 use mathlib.Core.List.{List, [], _∷_, _++_, append-nil}
 use native.Mathlib.Omega.{arith}
 use lib.ListN.{length}
-use Rattle.files.specs.Format.{done, got, runAll, Leads, here, take}
+use Rattle.files.specs.Format.{done, got, refused, runAll, Leads, here, take, RefusedAt}
 use Rattle.files.specs.Number.{limit, Bytes, bytesOfAll}
 use Rattle.files.specs.RuleFile.{rulesToEnd, requiredOn, moreRules, morePaths, moreRequired, afterRequired, afterPaths, afterRoot, afterCount, ruleFile, pathNumbers, ruleNumbers, numbersOf, fileOf}
 use Rattle.files.specs.Sets.{Ascending}
 use Rattle.files.specs.Table.{Path, Rule, RuleSet, Valid}
 use Rattle.files.specs.Writing.{rulesPass}
 use Rattle.files.proofs.FileParts.{PathsLed, paths-led, more-paths-only, more-paths-if, Within, RequiredLed, required-led, more-required-only, more-required-if, ascending-few, RulesLed, rules-led, more-rules-only, more-rules-if}
-use Rattle.files.proofs.Formats.{accepted-if, accepted-only}
+use Rattle.files.proofs.Formats.{accepted-if, accepted-only, refused-if, refused-only}
 use Rattle.files.proofs.Leading.{leads-want, leads-done, leads-then, Led, led, leads-split}
 use Rattle.files.proofs.Rows.{between-passes}
 use Rattle.files.proofs.ValidTables.{Passing, valid-passing, passing-valid}
@@ -37,7 +37,8 @@ after-required-only root ps req {r = r} l =
     let few = between-passes 0 257 8 (count .number) (omega arith) .0 (count .passes) in
     rw (count .all) (split (few .1) (leads-split (moreRules (1 + length ps) (count .number) []) _ (count .leads)))
   where
-    all : {k : ℕ} {ns : List ℕ} {rs : List Rule} → k < 257 → RulesLed (1 + length ps) [] k ns rs → AfterRequired root ps req (k ∷ ns) (made root ps req rs)
+    all : {k : ℕ} {ns : List ℕ} {rs : List Rule} → k < 257 → RulesLed (1 + length ps) [] k ns rs
+        → AfterRequired root ps req (k ∷ ns) (made root ps req rs)
     all few (rules-led rs e t) =
         subst (λ (n : ℕ). AfterRequired root ps req (n ∷ ruleNumbers rs) (made root ps req rs)) e (rules-after rs (omega arith) t)
 
@@ -45,25 +46,31 @@ after-required-only root ps req {r = r} l =
         → AfterRequired root ps req (k ∷ ns) r
     split {k = k} few (led {ns = front} l₁ l₂) =
         let end = leads-done l₂ in
-        rw (end .0, append-nil front) (subst (AfterRequired root ps req (k ∷ front)) (end .1) (all few (more-rules-only (1 + length ps) k [] l₁)))
+        rw (end .0, append-nil front)
+        (subst (AfterRequired root ps req (k ∷ front)) (end .1) (all few (more-rules-only (1 + length ps) k [] l₁)))
 
 -- numbers that lead from the required count to the end
 data AfterPaths (root : ℕ) (ps : List Path) : List ℕ → RuleSet → Type 0 where
-  required-after : (req : List ℕ) (rs : List Rule) → Ascending 1 req → Within (1 + length ps) req → length rs ≤ 256 → rulesPass (1 + length ps) rs ≡ true
+  required-after : (req : List ℕ) (rs : List Rule) → Ascending 1 req → Within (1 + length ps) req → length rs ≤ 256
+      → rulesPass (1 + length ps) rs ≡ true
       → AfterPaths root ps (length req ∷ (req ++ (length rs ∷ ruleNumbers rs))) (made root ps req rs)
 
-after-paths-only : (root : ℕ) (ps : List Path) {ns : List ℕ} {r : RuleSet} → Leads (afterPaths root ps) ns (done r) → AfterPaths root ps ns r
+after-paths-only : (root : ℕ) (ps : List Path) {ns : List ℕ} {r : RuleSet} → Leads (afterPaths root ps) ns (done r)
+    → AfterPaths root ps ns r
 unfolding afterPaths requiredOn
 after-paths-only root ps {r = r} l =
     let count = leads-want _ _ l in
     rw (count .all) (split (leads-split (moreRequired (1 + length ps) (count .number) 0 []) _ (count .leads)))
   where
-    all : {k : ℕ} {front back : List ℕ} {req : List ℕ} {q : RuleSet} → RequiredLed (1 + length ps) 0 k [] front req → AfterRequired root ps req back q
+    all : {k : ℕ} {front back : List ℕ} {req : List ℕ} {q : RuleSet} → RequiredLed (1 + length ps) 0 k [] front req
+        → AfterRequired root ps req back q
         → AfterPaths root ps (k ∷ (front ++ back)) q
     all (required-led req e a w) (rules-after rs few t) =
-        subst (λ (n : ℕ). AfterPaths root ps (n ∷ (req ++ (length rs ∷ ruleNumbers rs))) (made root ps req rs)) e (required-after req rs a w few t)
+        subst (λ (n : ℕ). AfterPaths root ps (n ∷ (req ++ (length rs ∷ ruleNumbers rs))) (made root ps req rs)) e
+        (required-after req rs a w few t)
 
-    split : {k : ℕ} {ns : List ℕ} → Led (moreRequired (1 + length ps) k 0 []) (λ req. afterRequired root ps req) r ns → AfterPaths root ps (k ∷ ns) r
+    split : {k : ℕ} {ns : List ℕ} → Led (moreRequired (1 + length ps) k 0 []) (λ req. afterRequired root ps req) r ns
+        → AfterPaths root ps (k ∷ ns) r
     split {k = k} (led {a = req} l₁ l₂) = all (more-required-only (1 + length ps) k 0 [] l₁) (after-required-only root ps req l₂)
 
 file-only : {ns : List ℕ} {r : RuleSet} → Leads ruleFile ns (done r) → Passing r × (ns ≡ numbersOf r)
@@ -72,7 +79,9 @@ file-only {ns} {r} l =
     let count = leads-want _ _ l in
     let label = leads-want _ _ (count .leads) in
     let few = between-passes 1 65 3 (count .number) (omega arith) .0 (count .passes) in
-    let h = split (count .number) (label .number) (few .0) (few .1) (label .small) (leads-split (morePaths (count .number - 1) []) _ (label .leads)) in
+    let h =
+    split (count .number) (label .number) (few .0) (few .1) (label .small)
+    (leads-split (morePaths (count .number - 1) []) _ (label .leads)) in
     (h .0, count .all ∙ ap (λ (t : List ℕ). count .number ∷ t) (label .all) ∙ h .1)
   where
     all : (count root : ℕ) → 1 ≤ count → count < 65 → root < limit → {front back : List ℕ} {ps : List Path} {q : RuleSet}
@@ -83,7 +92,8 @@ file-only {ns} {r} l =
           ap (λ (n : ℕ). n ∷ root ∷ (pathNumbers ps ++ (length req ∷ (req ++ (length rs ∷ ruleNumbers rs))))) is,
         )
 
-    split : (count root : ℕ) → 1 ≤ count → count < 65 → root < limit → {ms : List ℕ} → Led (morePaths (count - 1) []) (λ ps. afterPaths root ps) r ms
+    split : (count root : ℕ) → 1 ≤ count → count < 65 → root < limit → {ms : List ℕ}
+        → Led (morePaths (count - 1) []) (λ ps. afterPaths root ps) r ms
         → Passing r × (count ∷ root ∷ ms ≡ numbersOf r)
     split count root some few small (led {a = ps} l₁ l₂) =
         all count root some few small (more-paths-only (count - 1) [] l₁) (after-paths-only root ps l₂)
@@ -94,11 +104,14 @@ module _ (r : RuleSet) (t : Passing r) where
   after-required-if : Leads (afterRequired (r .root) (r .paths) (r .required)) (length (r .rules) ∷ ruleNumbers (r .rules)) (done r)
   unfolding afterRequired rulesToEnd
   after-required-if =
-      take {n = length (r .rules)} (omega (arith, t .many)) (between-passes 0 257 8 (length (r .rules)) (omega arith) .1 (omega arith, omega (arith, t .many)))
+      take {n = length (r .rules)} (omega (arith, t .many))
+      (between-passes 0 257 8 (length (r .rules)) (omega arith) .1 (omega arith, omega (arith, t .many)))
       (rw append-nil at
-      (leads-then (λ rs. done (made (r .root) (r .paths) (r .required) rs)) (more-rules-if (1 + length (r .paths)) [] (r .rules) (t .count) (t .rules)) here))
+      (leads-then (λ rs. done (made (r .root) (r .paths) (r .required) rs))
+      (more-rules-if (1 + length (r .paths)) [] (r .rules) (t .count) (t .rules)) here))
 
-  after-paths-if : Leads (afterPaths (r .root) (r .paths)) (length (r .required) ∷ (r .required ++ (length (r .rules) ∷ ruleNumbers (r .rules)))) (done r)
+  after-paths-if : Leads (afterPaths (r .root) (r .paths))
+      (length (r .required) ∷ (r .required ++ (length (r .rules) ∷ ruleNumbers (r .rules)))) (done r)
   unfolding afterPaths requiredOn
   after-paths-if =
       let few = ascending-few (1 + length (r .paths)) (t .required) (t .present) (omega arith) in
@@ -158,6 +171,10 @@ one-file r q v w e =
     let b = written-reads q w in
     let c : runAll ruleFile (fileOf r) ≡ runAll ruleFile (fileOf q) = ap (runAll ruleFile) e in
     cc
+
+-- bytes are refused with number k at a place exactly if numbers that pass their tests lead there, and there reading stops with k
+pub refused-file : (s : List ℕ) → Bytes s → (k at : ℕ) → (runAll ruleFile s ≡ refused k at) ↔ RefusedAt ruleFile s k at
+refused-file s bs k at = (refused-only ruleFile s bs k at, refused-if ruleFile s k at)
 
 -- bytes are accepted with at most one rule set
 pub one-reading : (s : List ℕ) (r q : RuleSet) (at to : ℕ) → runAll ruleFile s ≡ got r at → runAll ruleFile s ≡ got q to → r ≡ q

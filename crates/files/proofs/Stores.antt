@@ -1,19 +1,16 @@
 -- Laws of numbers stored in a lent buffer: their size, their bytes one after the other, and the buffer after all of them.
-use Prim.Native.Nat.{ℕ, zero, suc, _+_, _*_, _/_, _%_, _-_, _<_, _≤_}
-use mathlib.Core.Path.{_≡_, refl, sym, ap, ap₂, subst, _∙_}
-use mathlib.Core.Bool.{Bool, true, false, cond}
-use mathlib.Core.List.{List, [], _∷_, _++_, map, append-nil}
-use native.Mathlib.Nat.{add-zero, add-assoc}
+use Prim.Native.Nat.{ℕ, suc, _+_, _/_, _%_, _<_, _≤_}
+use mathlib.Core.Path.{_≡_, refl, sym, ap, _∙_}
+use mathlib.Core.List.{List, [], _∷_, _++_}
+use native.Mathlib.Nat.{add-zero}
 use native.Mathlib.Omega.{arith}
 use native.Mathlib.Numerals.{add-one}
 use lib.ListN.{length, getD, drop, set, length-append, length-set, drop-of-length-le}
 use lib.Seq.{sets, sets-eq, length-sets, drop-cons}
-use lib.Dec.{leb}
 use borrow.Author.Tests.{le-leb, lt-leb}
-use Rattle.files.specs.declared.write.Written.{Written}
 use Rattle.files.specs.declared.write.Written.the-variants.{Length, Refused}
 use Rattle.files.specs.Number.{limit, bytesOf, bytesOfAll}
-use Rattle.files.specs.Writing.{Put, put, wrapped, Puts}
+use Rattle.files.specs.Writing.{put, wrapped, Puts}
 use Rattle.files.proofs.Numbers.{bytes-short, bytes-long}
 
 -- how many bytes a number takes
@@ -82,7 +79,8 @@ from-step : (l : List ℕ) (i : ℕ) → i < length l → bytesFrom l i ≡ byte
 unfolding bytesFrom wrapped bytesOfAll
 from-step l i h = rw (drop-cons l i 0 h, add-one)
 
-from-length : (l : List ℕ) (i : ℕ) → i < length l → length (bytesFrom l i) ≡ length (bytesOf (getD l i 0 % limit)) + length (bytesFrom l (i + 1))
+from-length : (l : List ℕ) (i : ℕ) → i < length l
+    → length (bytesFrom l i) ≡ length (bytesOf (getD l i 0 % limit)) + length (bytesFrom l (i + 1))
 from-length l i h = ap length (from-step l i h) ∙ length-append (bytesOf (getD l i 0 % limit)) (bytesFrom l (i + 1))
 
 -- the size of all: what is counted and what remains

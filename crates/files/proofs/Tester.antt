@@ -1,24 +1,24 @@
 -- Laws of the test behind refusal 12, in the words of the code.
 use Prim.Native.Nat.{ℕ, zero, suc, _+_, _-_, _^_, _<_, _≤_}
-use mathlib.Core.Path.{_≡_, refl, sym, ap, ap₂, _∙_}
+use mathlib.Core.Path.{_≡_, refl, sym, ap, _∙_}
 use mathlib.Core.Bool.{Bool, true, false, cond, not}
 use mathlib.Core.List.{List, [], _∷_, _++_}
 use mathlib.Core.Logic.{_⊎_, inl, inr, ⊎-elim}
 use native.Mathlib.Omega.{arith}
 use lib.ListN.{length, getD, set, replicate}
-use lib.Dec.{ltb, leb, eqb}
+use lib.Dec.{ltb, eqb}
 use borrow.Author.Tests.{eq-eqb, ne-eqb, lt-ltb, le-ltb, ltb-true, ltb-false, not-true, not-false}
 use Rattle.files.specs.declared.rules.Rules.{Rules}
 use Rattle.files.specs.Number.{limit}
 use Rattle.files.specs.RuleFile.{between, deeper, depths, parentTest, labelTest, repeats}
 use Rattle.files.specs.Rules.{pathsFrom, rulesFrom, padded}
 use Rattle.files.specs.Sets.{common, difference, belowAll}
-use Rattle.files.specs.Table.{Path, Rule}
+use Rattle.files.specs.Table.{Path}
 use Rattle.files.specs.Writing.{both, pathPasses, passingDepth, pathsPass, ruleAt, rulePasses, rulesPass, requiredPass, pathsValid, rulesValid, tablePasses}
 use Rattle.files.proofs.Collect.{rules-step}
 use Rattle.files.proofs.Padded.{padded-get, padded-store}
-use Rattle.files.proofs.Reader.{between-low, between-past, between-in, paths-step, paths-length, paths-own, parent-padded, parent-below, parent-shallow}
-use Rattle.files.proofs.Tables.{depths-snoc, depths-length}
+use Rattle.files.proofs.Reader.{between-low, between-past, between-in, paths-step, paths-own, parent-padded, parent-below, parent-shallow}
+use Rattle.files.proofs.Depths.{depths-snoc, depths-length}
 
 -- ---- one path
 
@@ -65,7 +65,8 @@ module _ (parent label depth : List ℕ) (own p w : ℕ) (least : 1 ≤ own)
         → getD depth x 0 + 1 ≡ passingDepth (pathsFrom parent label 1 (own - 1)) (getD parent own 0) (getD label own 0)
     unfolding passingDepth pathPasses ps
     depth-passes x e h f =
-        let same : getD depth x 0 ≡ getD (depths ps) (getD parent own 0) 0 = rw (f, is, known) (padded-get 64 (depths ps) (getD parent own 0)) in
+        let same : getD depth x 0 ≡ getD (depths ps) (getD parent own 0) 0 =
+        rw (f, is, known) (padded-get 64 (depths ps) (getD parent own 0)) in
         rw (same-test, none, same-label, e, lt-ltb (getD label own 0) limit h, same) (omega arith)
 
 module _ (depth : List ℕ) (own p w x : ℕ) (tested : w ≡ parentTest depth own p) (small : w ≤ 0) (e : x ≡ p) where
@@ -79,7 +80,8 @@ pub ruleset depth-laws = (depth-parent, depth-repeats, depth-label, depth-passes
 
 -- ---- all paths
 
-paths-snoc : (parent label : List ℕ) (x k : ℕ) → pathsFrom parent label x (suc k) ≡ pathsFrom parent label x k ++ (pathAt parent label (x + k) ∷ [])
+paths-snoc : (parent label : List ℕ) (x k : ℕ)
+    → pathsFrom parent label x (suc k) ≡ pathsFrom parent label x k ++ (pathAt parent label (x + k) ∷ [])
 unfolding pathsFrom
 paths-snoc parent label x zero = let e : x + 0 ≡ x = omega arith in rw e
 paths-snoc parent label x (suc k) =
@@ -97,7 +99,8 @@ paths-grow parent label own h =
     ∙ ap (λ (k : ℕ). pathsFrom parent label 1 (own - 1) ++ (pathAt parent label k ∷ [])) f
 
 pub pass-start : (parent label : List ℕ) (count : ℕ)
-    → pathsPass (pathsFrom parent label 1 (1 - 1)) (pathsFrom parent label 1 (count - 1)) ≡ pathsPass [] (pathsFrom parent label 1 (count - 1))
+    → pathsPass (pathsFrom parent label 1 (1 - 1)) (pathsFrom parent label 1 (count - 1))
+    ≡ pathsPass [] (pathsFrom parent label 1 (count - 1))
 unfolding pathsFrom
 pass-start parent label count = refl
 
@@ -108,13 +111,13 @@ pass-depths parent label = refl
 -- whether a path passes, by its depth
 passes-by : (ps : List Path) (p l d : ℕ) → d ≡ passingDepth ps p l
     → ((d ≡ 0) × (pathPasses ps (record { parent = p; label = l }) ≡ false))
-      ⊎ ((d ≡ 1 + getD (depths ps) p 0) × (pathPasses ps (record { parent = p; label = l }) ≡ true))
+    ⊎ ((d ≡ 1 + getD (depths ps) p 0) × (pathPasses ps (record { parent = p; label = l }) ≡ true))
 unfolding passingDepth
 passes-by ps p l d e = by (pathPasses ps (record { parent = p; label = l })) refl
   where
     by : (t : Bool) → pathPasses ps (record { parent = p; label = l }) ≡ t
         → ((d ≡ 0) × (pathPasses ps (record { parent = p; label = l }) ≡ false))
-          ⊎ ((d ≡ 1 + getD (depths ps) p 0) × (pathPasses ps (record { parent = p; label = l }) ≡ true))
+        ⊎ ((d ≡ 1 + getD (depths ps) p 0) × (pathPasses ps (record { parent = p; label = l }) ≡ true))
     by true f = inr (e ∙ rw f, f)
     by false f = inl (e ∙ rw f, f)
 
@@ -133,7 +136,8 @@ module _ (parent label : List ℕ) (own d : ℕ) (least : 1 ≤ own)
     unfolding pathsPass
     pass-stop h = rw (paths-step parent label own count more, passes-not _ _ _ d is h) at inv
 
-    pub pass-on : (d ≡ 0 → ⊥) → pathsPass (pathsFrom parent label 1 (own + 1 - 1)) (pathsFrom parent label (own + 1) (count - (own + 1))) ≡ w
+    pub pass-on : (d ≡ 0 → ⊥)
+        → pathsPass (pathsFrom parent label 1 (own + 1 - 1)) (pathsFrom parent label (own + 1) (count - (own + 1))) ≡ w
     unfolding pathsPass
     pass-on h = rw (paths-grow parent label own least) (rw (paths-step parent label own count more, passes-at _ _ _ d is h .1) at inv)
 
@@ -170,7 +174,8 @@ module _ (parent label : List ℕ) (count : ℕ) where
     unfolding pathsValid
     paths-root h = rw (within, le-ltb (getD label 0 0) limit h)
 
-    pub paths-all : (t : Bool) → getD label 0 0 < 16384 → t ≡ pathsPass [] (pathsFrom parent label 1 (count - 1)) → t ≡ pathsValid parent label count
+    pub paths-all : (t : Bool) → getD label 0 0 < 16384
+        → t ≡ pathsPass [] (pathsFrom parent label 1 (count - 1)) → t ≡ pathsValid parent label count
     unfolding pathsValid
     paths-all t h e = rw (within, lt-ltb (getD label 0 0) limit h) e
 
@@ -242,7 +247,8 @@ module _ (kind left right : List ℕ) (many count : ℕ) where
   unfolding rulesValid
   rules-many h = rw (between-past 0 257 8 many (omega arith) h)
 
-  pub rules-all : (t : Bool) → many ≤ 256 → t ≡ rulesPass count (rulesFrom kind left right 0 many) → t ≡ rulesValid kind left right many count
+  pub rules-all : (t : Bool) → many ≤ 256
+      → t ≡ rulesPass count (rulesFrom kind left right 0 many) → t ≡ rulesValid kind left right many count
   unfolding rulesValid
   rules-all t h e = rw (between-in 0 257 8 many (omega arith) (omega arith)) e
 
@@ -257,7 +263,7 @@ both-three false b c d = refl
 
 table-parts : (t : Rules) → tablePasses t
     ≡ both (pathsValid (t .parent) (t .label) (t .paths))
-      (both (requiredPass (t .paths) (t .required)) (rulesValid (t .kind) (t .left) (t .right) (t .rules) (t .paths)))
+    (both (requiredPass (t .paths) (t .required)) (rulesValid (t .kind) (t .left) (t .right) (t .rules) (t .paths)))
 unfolding tablePasses pathsValid rulesValid
 table-parts t =
     both-three

@@ -1,7 +1,7 @@
 -- A table breaks no condition of 01 exactly where all of its tests pass.
 use Prim.Native.Nat.{ℕ, zero, suc, _+_, _<_, _≤_}
-use mathlib.Core.Path.{_≡_, refl, sym, ap, subst, _∙_}
-use mathlib.Core.Bool.{Bool, true, false}
+use mathlib.Core.Path.{_≡_, sym, subst, _∙_}
+use mathlib.Core.Bool.{true}
 use mathlib.Core.List.{List, [], _∷_, _++_, List·Memᴰ}
 use native.Mathlib.Omega.{arith}
 use lib.ListN.{length, getD, length-append}
@@ -10,9 +10,9 @@ use Rattle.files.specs.RuleFile.{depths}
 use Rattle.files.specs.Sets.{Ascending}
 use Rattle.files.specs.Table.{Path, Rule, Numbered, RuleSet, labels, parentIn, Depth, Valid}
 use Rattle.files.specs.Writing.{pathsPass, rulesPass}
-use Rattle.files.proofs.Depths.{At, at, at-place, map-there, map-before, depths-there, depths-root, Smaller, depth-only, depth-is}
+use Rattle.files.proofs.Depths.{At, at, at-place, parent-there, parent-before, label-there, label-before, depths-there, depths-root, Smaller, depth-only, depth-is}
 use Rattle.files.proofs.Passing.{PathGood, paths-each, paths-made, RuleGood, rules-each, rules-made}
-use Rattle.files.proofs.Rows.{Repeated, row-6}
+use Rattle.files.proofs.Rows.{row-6}
 
 -- the conditions of 01 on the paths of a table
 pub record Kept (root : ℕ) (ps : List Path) : Type 0 where
@@ -22,51 +22,24 @@ pub record Kept (root : ℕ) (ps : List Path) : Type 0 where
       → getD (labels root ps) x 0 ≡ getD (labels root ps) y 0 → ⊥
   pub label : (x : ℕ) → x < 1 + length ps → getD (labels root ps) x 0 < limit
 
-module _ (root : ℕ) (before : List Path) (p : Path) (after : List Path) where
-  -- path number 1 + length before
-  all : List Path
-  all = before ++ (p ∷ after)
+good-kept : (root : ℕ) (before : List Path) (p : Path) (after : List Path) → Kept root (before ++ (p ∷ after)) → PathGood before p
+good-kept root before p after k =
+    let all : List Path = before ++ (p ∷ after) in
+    let own : ℕ = suc (length before) in
+    let h : own < 1 + length all = omega (arith, length-append before (p ∷ after)) in
+    record {
+      smaller = omega (arith, parent-there before p after, k .smaller own (omega arith) h);
+      shallow = omega (arith, depths-there before p after, k .depth own (getD (depths all) own 0) h (depth-is all (k .smaller) own h));
+      new =
+          row-6 root (p .parent) (p .label) before .passed .1
+          (λ r.
+          k .distinct (r .path) own (r .other) (omega (arith, r .earlier)) h
+          (parent-before before p after (r .path) (r .earlier) ∙ r .parent ∙ sym (parent-there before p after))
+          (label-before before p after root (r .path) (r .earlier) ∙ r .label ∙ sym (label-there before p after root)));
+      label = omega (arith, label-there before p after root, k .label own h);
+    }
 
-  own : ℕ
-  own = suc (length before)
-
-  parent-there : parentIn all own ≡ p .parent
-  unfolding all own
-  parent-there = map-there (λ (q : Path). q .parent) before p after
-
-  label-there : getD (labels root all) own 0 ≡ p .label
-  unfolding all own
-  label-there = map-there (λ (q : Path). q .label) before p after
-
-  parent-before : (x : ℕ) → x < own → parentIn all x ≡ parentIn before x
-  unfolding all own
-  parent-before x h = map-before (λ (q : Path). q .parent) 0 before (p ∷ after) x (omega arith)
-
-  label-before : (x : ℕ) → x < own → getD (labels root all) x 0 ≡ getD (labels root before) x 0
-  unfolding all own
-  label-before x h = map-before (λ (q : Path). q .label) root before (p ∷ after) x (omega arith)
-
-  in-table : own < 1 + length all
-  unfolding all own
-  in-table = omega (arith, length-append before (p ∷ after))
-
-  good-kept : Kept root all → PathGood before p
-  unfolding all own
-  good-kept k =
-      record {
-        smaller = omega (arith, parent-there, k .smaller own (omega arith) in-table);
-        shallow = omega (arith, depths-there before p after, k .depth own (getD (depths all) own 0) in-table (depth-is all (k .smaller) own in-table));
-        new =
-            row-6 root (p .parent) (p .label) before .passed .1
-            (λ r.
-            let h : r .path < own = omega (arith, r .earlier) in
-            k .distinct (r .path) own (r .other) h in-table (parent-before (r .path) h ∙ r .parent ∙ sym parent-there)
-            (label-before (r .path) h ∙ r .label ∙ sym label-there));
-        label = omega (arith, label-there, k .label own in-table);
-      }
-
-pub kept-passes : (root : ℕ) (ps : List Path) → Kept root ps → pathsPass [] ps ≡ true
-unfolding all
+kept-passes : (root : ℕ) (ps : List Path) → Kept root ps → pathsPass [] ps ≡ true
 kept-passes root ps k = paths-made [] ps (λ before p after e. good-kept root before p after (subst (Kept root) e k))
 
 -- paths that pass their tests
@@ -76,7 +49,7 @@ module _ (ps : List Path) (ok : pathsPass [] ps ≡ true) where
     where
       by : {qs : List Path} {y : ℕ} → At qs y → pathsPass [] qs ≡ true → parentIn qs y < y
       by (at before p after) t =
-          omega (arith, map-there (λ (q : Path). q .parent) before p after, paths-each [] before p after t .smaller)
+          omega (arith, parent-there before p after, paths-each [] before p after t .smaller)
 
   pub passed-depth : (x d : ℕ) → x < 1 + length ps → Depth ps x d → d ≤ 8
   passed-depth x d h m = omega (arith, depth-only ps passed-smaller m h, low x h)
@@ -96,16 +69,13 @@ module _ (ps : List Path) (ok : pathsPass [] ps ≡ true) where
         by : {qs : List Path} {z : ℕ} → At qs z → pathsPass [] qs ≡ true → x < z → parentIn qs x ≡ parentIn qs z
             → getD (labels root qs) x 0 ≡ getD (labels root qs) z 0 → ⊥
         by (at before p after) t m e f =
-            let h′ : x < 1 + length before = omega arith in
             row-6 root (p .parent) (p .label) before .passed .0 (paths-each [] before p after t .new)
             (record {
               path = x;
               other = pos;
-              earlier = h′;
-              parent =
-                  sym (map-before (λ (q : Path). q .parent) 0 before (p ∷ after) x h′) ∙ e ∙ map-there (λ (q : Path). q .parent) before p after;
-              label =
-                  sym (map-before (λ (q : Path). q .label) root before (p ∷ after) x h′) ∙ f ∙ map-there (λ (q : Path). q .label) before p after;
+              earlier = omega arith;
+              parent = sym (parent-before before p after x (omega arith)) ∙ e ∙ parent-there before p after;
+              label = sym (label-before before p after root x (omega arith)) ∙ f ∙ label-there before p after root;
             })
 
     passed-label : root < limit → (x : ℕ) → x < 1 + length ps → getD (labels root ps) x 0 < limit
@@ -113,9 +83,9 @@ module _ (ps : List Path) (ok : pathsPass [] ps ≡ true) where
     passed-label small (suc i) h = by (at-place ps (suc i) (omega arith) h) ok
       where
         by : {qs : List Path} {z : ℕ} → At qs z → pathsPass [] qs ≡ true → getD (labels root qs) z 0 < limit
-        by (at before p after) t = omega (arith, map-there (λ (q : Path). q .label) before p after, paths-each [] before p after t .label)
+        by (at before p after) t = omega (arith, label-there before p after root, paths-each [] before p after t .label)
 
-    pub passed-kept : root < limit → Kept root ps
+    passed-kept : root < limit → Kept root ps
     passed-kept small =
         record { smaller = passed-smaller; depth = passed-depth; distinct = passed-distinct; label = passed-label small }
 

@@ -1,26 +1,27 @@
 -- Laws of the writer: the collected numbers are those of the rule file, and the answer is that of their bytes.
-use Prim.Native.Nat.{ℕ, zero, suc, _+_, _*_, _-_, _%_, _^_, _<_, _≤_}
-use mathlib.Core.Path.{_≡_, refl, sym, ap, ap₂, subst, _∙_}
+use Prim.Native.Nat.{ℕ, _+_, _*_, _-_, _%_, _^_, _<_, _≤_}
+use mathlib.Core.Path.{_≡_, refl, sym, ap, ap₂, _∙_}
 use mathlib.Core.Bool.{Bool, true, false, not}
 use mathlib.Core.List.{List, [], _∷_, _++_}
 use native.Mathlib.Omega.{arith}
-use lib.ListN.{length, getD, drop, length-append}
+use lib.ListN.{length, drop, length-append}
 use lib.Seq.{sets, sets-eq, length-sets, take-at, length-take-le}
 use borrow.Author.Tests.{not-true, not-false}
 use Rattle.files.specs.declared.rules.Rules.{Rules}
 use Rattle.files.specs.declared.write.Written.{Written}
-use Rattle.files.specs.declared.write.Written.the-variants.{Length, Refused}
+use Rattle.files.specs.declared.write.Written.the-variants.{Refused}
 use Rattle.files.specs.Number.{limit, bytesOfAll}
 use Rattle.files.specs.Format.{Format, Leads, here, take}
 use Rattle.files.specs.RuleFile.{pathNumbers, ruleNumbers, numbersOf, fileOf}
 use Rattle.files.specs.Rules.{pathsFrom, rulesFrom, rulesOf, ValidTable}
 use Rattle.files.specs.Sets.{members}
-use Rattle.files.specs.Table.{Path, Rule, Valid}
-use Rattle.files.specs.Writing.{tablePasses, Put, put, writeAnswer, wrapped, Puts}
-use Rattle.files.proofs.Reader.{paths-length, paths-own}
+use Rattle.files.specs.Table.{Path, Rule}
+use Rattle.files.specs.Writing.{tablePasses, put, writeAnswer, wrapped, pathSection, requiredSection, ruleSection, Puts}
+use Rattle.files.proofs.Reader.{paths-own}
+use Rattle.files.proofs.Tables.{paths-length, rules-length}
 use Rattle.files.proofs.RuleFiles.{valid-leads}
 use Rattle.files.proofs.Stores.{sets-append}
-use Rattle.files.proofs.TableTests.{passes-valid, rules-from-length}
+use Rattle.files.proofs.TableTests.{passes-valid}
 
 -- ---- the numbers collected
 
@@ -34,63 +35,56 @@ unfolding ruleNumbers
 rule-numbers-length [] = refl
 rule-numbers-length (r ∷ rs) = omega (arith, rule-numbers-length rs)
 
-module _ (t : Rules) where
-  -- the sections of the file
-  pathPart : List ℕ
-  pathPart = t .paths ∷ getD (t .label) 0 0 ∷ pathNumbers (pathsFrom (t .parent) (t .label) 1 (t .paths - 1))
+-- three runs of stores, each where the one before it ends
+three-runs : (entry one two three a b c : List ℕ) (after next : ℕ) → length a ≡ after → after + length b ≡ next
+    → one ≡ sets entry 0 a → two ≡ sets one after b → three ≡ sets two next c → three ≡ sets entry 0 (a ++ (b ++ c))
+three-runs entry one two three a b c after next m n e f g =
+    let at : 0 + length a ≡ after = omega arith in
+    g
+    ∙ ap (λ (l : List ℕ). sets l next c) (f ∙ ap (λ (l : List ℕ). sets l after b) e)
+    ∙ ap (λ (k : ℕ). sets (sets (sets entry 0 a) after b) k c) (sym n)
+    ∙ sym (sets-append b c (sets entry 0 a) after)
+    ∙ ap (λ (k : ℕ). sets (sets entry 0 a) k (b ++ c)) (sym at)
+    ∙ sym (sets-append a (b ++ c) entry 0)
 
-  requiredPart : List ℕ
-  requiredPart = length (members (t .required)) ∷ members (t .required)
+module _ (t : Rules) (least : 1 ≤ t .paths) where
+  abbrev paths : List ℕ
+  paths = pathSection (t .parent) (t .label) (t .paths)
 
-  rulePart : List ℕ
-  rulePart = t .rules ∷ ruleNumbers (rulesFrom (t .kind) (t .left) (t .right) 0 (t .rules))
+  abbrev required : List ℕ
+  required = requiredSection (t .required)
 
-  module _ (least : 1 ≤ t .paths) where
-    numbers-parts : numbersOf (rulesOf t) ≡ pathPart ++ (requiredPart ++ rulePart)
-    unfolding numbersOf rulesOf pathPart requiredPart rulePart
-    numbers-parts =
-        rw (paths-own (t .parent) (t .label) (t .paths) least, rules-from-length (t .kind) (t .left) (t .right) 0 (t .rules))
+  abbrev rules : List ℕ
+  rules = ruleSection (t .kind) (t .left) (t .right) (t .rules)
 
-    paths-size : length pathPart ≡ 2 * t .paths
-    unfolding pathPart
-    paths-size =
+  numbers-sections : numbersOf (rulesOf t) ≡ paths ++ (required ++ rules)
+  unfolding numbersOf rulesOf
+  numbers-sections =
+      rw (paths-own (t .parent) (t .label) (t .paths) least, rules-length (t .kind) (t .left) (t .right) 0 (t .rules))
+
+  paths-size : length paths ≡ 2 * t .paths
+  paths-size =
+      omega
+      (arith, path-numbers-length (pathsFrom (t .parent) (t .label) 1 (t .paths - 1)), paths-length (t .parent) (t .label) 1 (t .paths - 1))
+
+  rules-size : length rules ≡ 1 + 3 * t .rules
+  rules-size =
+      omega
+      (arith, rule-numbers-length (rulesFrom (t .kind) (t .left) (t .right) 0 (t .rules)), rules-length (t .kind) (t .left) (t .right) 0 (t .rules))
+
+  module _ (after next : ℕ) (a : after ≡ 2 * t .paths) (b : next ≡ after + 1 + length (members (t .required))) where
+    pub collected-count : (n : ℕ) → n ≡ next + 1 + 3 * t .rules → n ≡ length (numbersOf (rulesOf t))
+    collected-count n c =
         omega
-        (arith, path-numbers-length (pathsFrom (t .parent) (t .label) 1 (t .paths - 1)), paths-length (t .parent) (t .label) 1 (t .paths - 1))
+        (arith, ap length numbers-sections, length-append paths (required ++ rules), length-append required rules, paths-size, rules-size)
 
-    required-size : length requiredPart ≡ 1 + length (members (t .required))
-    unfolding requiredPart
-    required-size = omega arith
-
-    rules-size : length rulePart ≡ 1 + 3 * t .rules
-    unfolding rulePart
-    rules-size =
-        omega
-        (arith, rule-numbers-length (rulesFrom (t .kind) (t .left) (t .right) 0 (t .rules)),
-         rules-from-length (t .kind) (t .left) (t .right) 0 (t .rules))
-
-    module _ (after next : ℕ) (a : after ≡ 2 * t .paths) (b : next ≡ after + 1 + length (members (t .required))) where
-      pub collected-count : (n : ℕ) → n ≡ next + 1 + 3 * t .rules → n ≡ length (numbersOf (rulesOf t))
-      collected-count n c =
-          omega
-          (arith, ap length numbers-parts, length-append pathPart (requiredPart ++ rulePart), length-append requiredPart rulePart,
-           paths-size, required-size, rules-size)
-
-      pub collected : (entry one two three : List ℕ)
-          → one ≡ sets entry 0 (t .paths ∷ getD (t .label) 0 0 ∷ pathNumbers (pathsFrom (t .parent) (t .label) 1 (t .paths - 1)))
-          → two ≡ sets one after (length (members (t .required)) ∷ members (t .required))
-          → three ≡ sets two next (t .rules ∷ ruleNumbers (rulesFrom (t .kind) (t .left) (t .right) 0 (t .rules)))
-          → three ≡ sets entry 0 (numbersOf (rulesOf t))
-      unfolding pathPart requiredPart rulePart
-      collected entry one two three e f g =
-          let at : 0 + length pathPart ≡ after = omega (arith, paths-size) in
-          let then : after + length requiredPart ≡ next = omega (arith, required-size) in
-          g
-          ∙ ap (λ (l : List ℕ). sets l next rulePart) (f ∙ ap (λ (l : List ℕ). sets l after requiredPart) e)
-          ∙ ap (λ (k : ℕ). sets (sets (sets entry 0 pathPart) after requiredPart) k rulePart) (sym then)
-          ∙ sym (sets-append requiredPart rulePart (sets entry 0 pathPart) after)
-          ∙ ap (λ (k : ℕ). sets (sets entry 0 pathPart) k (requiredPart ++ rulePart)) (sym at)
-          ∙ sym (sets-append pathPart (requiredPart ++ rulePart) entry 0)
-          ∙ ap (sets entry 0) (sym numbers-parts)
+    pub collected : (entry one two three : List ℕ) → one ≡ sets entry 0 (pathSection (t .parent) (t .label) (t .paths))
+        → two ≡ sets one after (requiredSection (t .required))
+        → three ≡ sets two next (ruleSection (t .kind) (t .left) (t .right) (t .rules))
+        → three ≡ sets entry 0 (numbersOf (rulesOf t))
+    collected entry one two three e f g =
+        three-runs entry one two three paths required rules after next (omega (arith, paths-size)) (omega arith) e f g
+        ∙ ap (sets entry 0) (sym numbers-sections)
 
 pub ruleset collect-laws = (collected-count, collected)
 
@@ -131,7 +125,7 @@ module _ (t : Rules) (v : Bool) (e : v ≡ tablePasses t) where
 
     pub few-rules : t .rules ≤ 256
     unfolding rulesOf
-    few-rules = omega (arith, valid .valid .rules, rules-from-length (t .kind) (t .left) (t .right) 0 (t .rules))
+    few-rules = omega (arith, valid .valid .rules, rules-length (t .kind) (t .left) (t .right) 0 (t .rules))
 
     pub write-puts : (out after l z : List ℕ) (r : Written) (n : ℕ) → l ≡ sets z 0 (numbersOf (rulesOf t)) → length z ≡ 1024
         → n ≡ length (numbersOf (rulesOf t)) → n ≤ 1024 → Puts (put (bytesOfAll (wrapped (lib.ListN.take n l))) out) r after

@@ -53,11 +53,11 @@ ruleAnswer (refused k at) = OneRule.Refused k at
 -- the rules that were read, in their arrays; of a refusal the arrays are empty
 unfoldable pub ruleListAnswer : Outcome (List Rule) → RuleList
 ruleListAnswer (got rs next) =
-    record
-    { end = Section.Read next
-    ; kind = padded 256 (map (λ (ru : Rule). ru .kind) rs)
-    ; left = padded 256 (map (λ (ru : Rule). ru .left) rs)
-    ; right = padded 256 (map (λ (ru : Rule). ru .right) rs)
+    record {
+      end = Section.Read next;
+      kind = padded 256 (map (λ (ru : Rule). ru .kind) rs);
+      left = padded 256 (map (λ (ru : Rule). ru .left) rs);
+      right = padded 256 (map (λ (ru : Rule). ru .right) rs);
     }
 ruleListAnswer (refused k at) = record { end = Section.Refused k at; kind = padded 256 []; left = padded 256 []; right = padded 256 [] }
 

@@ -1,6 +1,8 @@
 -- The struct `Rules`: the rule set that it stands for, and the struct that reading hands back for a rule set.
 use Prim.Native.Nat.{ℕ, zero, suc, _+_, _-_, _<_}
+use mathlib.Core.Bool.{cond}
 use mathlib.Core.List.{List, [], _∷_, _++_, map}
+use lib.Dec.{ltb}
 use lib.ListN.{length, getD, replicate}
 use Rattle.files.specs.declared.rules.Rules.{Rules}
 use Rattle.files.specs.Sets.{members, withPath}
@@ -20,6 +22,19 @@ rulesFrom kind left right r (suc k) =
 -- a list in an array of n numbers: 0 in the slots that it leaves
 unfoldable pub padded : ℕ → List ℕ → List ℕ
 padded n l = l ++ replicate (n - length l) 0
+
+-- the number of slots that a count of paths means, of the 64
+unfoldable pub firstOf : ℕ → ℕ
+firstOf count = cond (ltb count 64) count 64
+
+-- so many slots from x on
+unfoldable pub slotsFrom : List ℕ → ℕ → ℕ → List ℕ
+slotsFrom l x zero = []
+slotsFrom l x (suc k) = getD l x 0 ∷ slotsFrom l (x + 1) k
+
+-- the parents of the first `count` paths in an array of their own, the root as its own parent
+unfoldable pub parentsIn : List ℕ → ℕ → List ℕ
+parentsIn parent count = padded 64 (0 ∷ slotsFrom parent 1 (firstOf count - 1))
 
 -- the rule set that a struct stands for
 unfoldable pub rulesOf : Rules → RuleSet

@@ -1,6 +1,7 @@
 -- Writing a rule file: the test behind refusal 12, and what the answer and the buffer are.
 use Prim.Native.Nat.{ℕ, zero, suc, _+_, _-_, _%_, _<_, _≤_}
 use mathlib.Core.Path.{_≡_}
+use mathlib.Core.Logic.{_↔_}
 use mathlib.Core.Bool.{Bool, true, false, cond}
 use mathlib.Core.List.{List, [], _∷_, _++_, map}
 use lib.ListN.{length, getD, drop}
@@ -9,9 +10,9 @@ use Rattle.files.specs.declared.rules.Rules.{Rules}
 use Rattle.files.specs.declared.write.Written.{Written}
 use Rattle.files.specs.declared.write.Written.the-variants.{Length, Refused}
 use Rattle.files.specs.Number.{limit, bytesOfAll}
-use Rattle.files.specs.RuleFile.{between, parentTest, labelTest, depths, fileOf}
-use Rattle.files.specs.Rules.{rulesOf, pathsFrom, rulesFrom}
-use Rattle.files.specs.Sets.{common, difference, belowAll}
+use Rattle.files.specs.RuleFile.{between, parentTest, labelTest, depths, pathNumbers, ruleNumbers, fileOf}
+use Rattle.files.specs.Rules.{rulesOf, pathsFrom, rulesFrom, ValidTable}
+use Rattle.files.specs.Sets.{common, difference, belowAll, members}
 use Rattle.files.specs.Table.{Path, Rule}
 
 -- both tests hold
@@ -83,6 +84,17 @@ put bytes out =
 unfoldable pub writeAnswer : Rules → List ℕ → Put
 writeAnswer t out = cond (tablePasses t) (put (fileOf (rulesOf t)) out) (record { answer = Refused 12 0; buffer = out })
 
+-- the numbers of a table's file in three sections: path count, root label, parents and labels; required count and required
+-- paths; rule count and rules
+abbrev pub pathSection : List ℕ → List ℕ → ℕ → List ℕ
+pathSection parent label count = count ∷ getD label 0 0 ∷ pathNumbers (pathsFrom parent label 1 (count - 1))
+
+abbrev pub requiredSection : ℕ → List ℕ
+requiredSection required = length (members required) ∷ members required
+
+abbrev pub ruleSection : List ℕ → List ℕ → List ℕ → ℕ → List ℕ
+ruleSection kind left right many = many ∷ ruleNumbers (rulesFrom kind left right 0 many)
+
 -- numbers as a file can hold them: one at or past the limit is taken modulo the limit
 unfoldable pub wrapped : List ℕ → List ℕ
 wrapped ns = map (λ (n : ℕ). n % limit) ns
@@ -91,3 +103,16 @@ wrapped ns = map (λ (n : ℕ). n % limit) ns
 pub record Puts (p : Put) (r : Written) (after : List ℕ) : Type 0 where
   pub answer : r ≡ p .answer
   pub buffer : after ≡ p .buffer
+
+-- what writing a table into a lent buffer promises, on all tables and buffers
+pub record WriteRules (t : Rules) (out : List ℕ) (r : Written) (after : List ℕ) : Type 0 where
+  -- the answer, and the whole buffer after the call
+  pub puts : Puts (writeAnswer t out) r after
+  -- refusal 12 exactly if the table is not valid
+  pub invalid : (r ≡ Refused 12 0) ↔ (ValidTable t → ⊥)
+  -- refusal 20 exactly if it is valid and its file is longer than the buffer
+  pub short : (r ≡ Refused 20 0) ↔ (ValidTable t × (length out < length (fileOf (rulesOf t))))
+  -- a refusal is one of the two, at 0, and leaves every byte
+  pub refused : (k at : ℕ) → r ≡ Refused k at → (at ≡ 0) × (after ≡ out)
+  -- else the file fills the start, its length is returned, and later bytes are unchanged
+  pub written : (n : ℕ) → r ≡ Length n → (n ≡ length (fileOf (rulesOf t))) × (after ≡ fileOf (rulesOf t) ++ drop n out)

@@ -11,10 +11,22 @@ pub enum Number {
     Refused(u8),
 }
 
-fn wide(b: u8) -> u32
+pub(crate) fn wide32(b: u8) -> u32
     ensures { λ r. ⌜ (r ≡ b) × (r < 256) ⌝ }
 {
     b as u32
+}
+
+pub fn wide(b: u8) -> usize
+    ensures { λ r. ⌜ (r ≡ b) × (r < 256) ⌝ }
+{
+    b as usize
+}
+
+pub fn wide_number(n: u32) -> usize
+    ensures { λ r. ⌜ r ≡ n ⌝ }
+{
+    n as usize
 }
 
 // The second byte `high` of a number after the first, `low`, which says that another follows.
@@ -38,7 +50,7 @@ pub fn read_number(s: &[u8], at: usize) -> Number
     if s.len() <= at {
         return Number::Refused(1);
     }
-    let low = wide(s[at]);
+    let low = wide32(s[at]);
     if low < 128 {
         return Number::Is(low, 1);
     }
@@ -46,7 +58,7 @@ pub fn read_number(s: &[u8], at: usize) -> Number
     if s.len() <= next {
         return Number::Refused(1);
     }
-    second(low, wide(s[next]))
+    second(low, wide32(s[next]))
 }
 
 // How many bytes the number takes.

@@ -12,9 +12,11 @@ ghost use Rattle.files.specs.Reading.{passed, tested, pathAnswer, pathsA
 
 use crate::number::Number;
 use crate::number::read_number;
+use crate::number::wide;
+use crate::number::wide_number;
+use crate::number::wide32;
 use crate::rules::Rules;
 use crate::sets::with;
-
 
 // One path: its parent, its label, its depth and the place after it.
 enum OnePath {
@@ -65,24 +67,6 @@ pub enum Answer {
 pub struct Reading {
     pub answer: Answer,
     pub rules: Rules,
-}
-
-pub fn wide(b: u8) -> usize
-    ensures { λ r. ⌜ (r ≡ b) × (r < 256) ⌝ }
-{
-    b as usize
-}
-
-pub(crate) fn wide32(b: u8) -> u32
-    ensures { λ r. ⌜ (r ≡ b) × (r < 256) ⌝ }
-{
-    b as u32
-}
-
-pub fn wide_number(n: u32) -> usize
-    ensures { λ r. ⌜ r ≡ n ⌝ }
-{
-    n as usize
 }
 
 // The test of a number that stands from `low` up to and without `past`: 0, or the refusal.
@@ -149,13 +133,13 @@ pub(crate) fn parent_test(depth: &[u8; 64], own: usize, p: u32) -> u8
     ensures { λ r. ⌜ r ≡ parentTest (now (depth .entry)) own p ⌝ }
 {
     let x = wide_number(p);
-    if x < own {
-        if wide(depth[x]) < 8 {
-            return 0;
-        }
-        return 5;
+    if own <= x {
+        return 4;
     }
-    4
+    if wide(depth[x]) < 8 {
+        return 0;
+    }
+    5
 }
 
 // The label of path `own`, whose parent `p` passed its test, and the path.
@@ -314,9 +298,9 @@ fn read_rule_list(s: &[u8], at: usize, count: u32, many: usize) -> RuleList
     let mut i = 0usize;
     while i < many {
         match read_rule(s, next, count) {
-            OneRule::Refused(why, place) => {
+            OneRule::Refused(number, place) => {
                 return RuleList {
-                    end: Section::Refused(why, place),
+                    end: Section::Refused(number, place),
                     kind: [0u8; 256],
                     left: [0u8; 256],
                     right: [0u8; 256],
@@ -426,7 +410,15 @@ fn read_rule_count(
 {
     match read_between(s, at, 0, 257, 8) {
         Number::Refused(why) => refuse(why, at),
-        Number::Is(many, size) => read_to_end(s, at + size, wide_number(many), count, parent, label, required),
+        Number::Is(many, size) => read_to_end(
+            s,
+            at + size,
+            wide_number(many),
+            count,
+            parent,
+            label,
+            required,
+        ),
     }
 }
 
@@ -450,7 +442,13 @@ fn read_required_paths(
 }
 
 // Required count and required paths, and on.
-fn read_required_count(s: &[u8], at: usize, count: u32, parent: [u8; 64], label: [u32; 64]) -> Reading
+fn read_required_count(
+    s: &[u8],
+    at: usize,
+    count: u32,
+    parent: [u8; 64],
+    label: [u32; 64],
+) -> Reading
     requires { ⌜ count ≤ 64 ⌝ }
     ensures { λ r. ⌜ ((root : ℕ) (ps : List Path) → PathsIn count parent label root ps
         → r ≡ readingOf (atEnd (length (now (s .entry))) (run (afterPaths root ps) at (drop at (now (s .entry)))))) ⌝ }

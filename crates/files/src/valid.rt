@@ -1,16 +1,16 @@
 // The test behind refusal 12: whether a table handed in meets the conditions of 3 to 10 and has no label past the limit.
-ghost use Prim.Native.Nat.{ℕ, _+_, _-_, _≤_, _<_};
+ghost use Prim.Native.Nat.{_+_, _-_, _≤_, _<_};
 ghost use mathlib.Core.Path.{_≡_};
-ghost use mathlib.Core.List.{List, []};
-ghost use lib.ListN.{length, getD};
+ghost use mathlib.Core.List.{[]};
+ghost use lib.ListN.{getD};
 ghost use Rattle.files.specs.RuleFile.{depths};
 ghost use Rattle.files.specs.Rules.{pathsFrom, rulesFrom, padded};
 ghost use Rattle.files.specs.Writing.{passingDepth, pathsPass, ruleAt, rulePasses, rulesPass, requiredPass, pathsValid, rulesValid, tablePasses};
+use crate::number::wide;
+use crate::number::wide_number;
+use crate::number::wide32;
 use crate::read::parent_test;
 use crate::read::repeats;
-use crate::read::wide;
-use crate::read::wide32;
-use crate::read::wide_number;
 use crate::rules::Rules;
 use crate::sets;
 
@@ -80,7 +80,13 @@ fn required_pass(required: u64, count: usize) -> bool
 }
 
 // Whether rule x's kind and sides pass their tests in a table of `count` paths.
-fn rule_passes(kind: &[u8; 256], left: &[u8; 256], right: &[u8; 256], x: usize, count: usize) -> bool
+fn rule_passes(
+    kind: &[u8; 256],
+    left: &[u8; 256],
+    right: &[u8; 256],
+    x: usize,
+    count: usize,
+) -> bool
     requires { ⌜ x < 256 ⌝ }
     ensures { λ r. ⌜ r ≡ rulePasses count (ruleAt (now (kind .entry)) (now (left .entry)) (now (right .entry)) x) ⌝ }
 {
@@ -98,7 +104,13 @@ fn rule_passes(kind: &[u8; 256], left: &[u8; 256], right: &[u8; 256], x: usize, 
 }
 
 // Whether rules 0 to `many` - 1 pass their tests.
-fn rules_pass(kind: &[u8; 256], left: &[u8; 256], right: &[u8; 256], many: usize, count: usize) -> bool
+fn rules_pass(
+    kind: &[u8; 256],
+    left: &[u8; 256],
+    right: &[u8; 256],
+    many: usize,
+    count: usize,
+) -> bool
     requires { ⌜ many ≤ 256 ⌝ }
     ensures { λ r. ⌜ r ≡ rulesPass count (rulesFrom (now (kind .entry)) (now (left .entry)) (now (right .entry)) 0 many) ⌝ }
 {
@@ -113,7 +125,13 @@ fn rules_pass(kind: &[u8; 256], left: &[u8; 256], right: &[u8; 256], many: usize
 }
 
 // Whether the rule count and the rules pass their tests.
-fn rules_valid(kind: &[u8; 256], left: &[u8; 256], right: &[u8; 256], many: usize, count: usize) -> bool
+fn rules_valid(
+    kind: &[u8; 256],
+    left: &[u8; 256],
+    right: &[u8; 256],
+    many: usize,
+    count: usize,
+) -> bool
     ensures { λ r. ⌜ r ≡ rulesValid (now (kind .entry)) (now (left .entry)) (now (right .entry)) many count ⌝ }
 {
     if 256 < many {

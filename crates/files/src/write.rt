@@ -1,17 +1,16 @@
 // Writing a rule file into a lent buffer.
-ghost use Prim.Native.Nat.{ℕ, _+_, _*_, _-_, _≤_, _<_, min};
+ghost use Prim.Native.Nat.{_+_, _*_, _≤_, _<_};
 ghost use mathlib.Core.Path.{_≡_};
-ghost use mathlib.Core.List.{List, [], _∷_};
-ghost use lib.ListN.{length, take, getD};
+ghost use lib.ListN.{length};
 ghost use lib.Seq.{sets};
-ghost use Rattle.files.specs.Number.{limit, bytesOfAll};
-ghost use Rattle.files.specs.RuleFile.{pathNumbers, ruleNumbers, numbersOf};
-ghost use Rattle.files.specs.Rules.{rulesOf, pathsFrom, rulesFrom};
+ghost use Rattle.files.specs.Number.{bytesOfAll};
+ghost use Rattle.files.specs.RuleFile.{numbersOf};
+ghost use Rattle.files.specs.Rules.{rulesOf};
 ghost use Rattle.files.specs.Sets.{members};
-ghost use Rattle.files.specs.Writing.{put, wrapped, Puts, writeAnswer};
+ghost use Rattle.files.specs.Writing.{put, wrapped, pathSection, requiredSection, ruleSection, Puts, WriteRules};
 use crate::number::put_number;
 use crate::number::size_of;
-use crate::read::wide32;
+use crate::number::wide32;
 use crate::rules::Rules;
 use crate::sets;
 use crate::valid::valid_table;
@@ -61,9 +60,15 @@ pub fn put_numbers(numbers: &[u32], out: &mut [u8]) -> Written
 }
 
 // Path count, root label, parents and labels stored at the start; the place after them.
-fn collect_paths(parent: &[u8; 64], label: &[u32; 64], count: usize, numbers: &mut [u32; 1024]) -> usize
+fn collect_paths(
+    parent: &[u8; 64],
+    label: &[u32; 64],
+    count: usize,
+    numbers: &mut [u32; 1024],
+) -> usize
     requires { ⌜ (1 ≤ count) × (count ≤ 64) ⌝ }
-    ensures { λ r. ⌜ (r ≡ 2 * count) × (now (numbers .exit) ≡ sets (now (numbers .entry)) 0 (count ∷ getD (now (label .entry)) 0 0 ∷ pathNumbers (pathsFrom (now (parent .entry)) (now (label .entry)) 1 (count - 1)))) ⌝ }
+    ensures { λ r. ⌜ (r ≡ 2 * count)
+        × (now (numbers .exit) ≡ sets (now (numbers .entry)) 0 (pathSection (now (parent .entry)) (now (label .entry)) count)) ⌝ }
 {
     numbers[0] = count as u32;
     numbers[1] = label[0];
@@ -81,7 +86,9 @@ fn collect_paths(parent: &[u8; 64], label: &[u32; 64], count: usize, numbers: &m
 // Required count and required paths stored from `start` on; the place after them.
 fn collect_required(required: u64, start: usize, numbers: &mut [u32; 1024]) -> usize
     requires { ⌜ start ≤ 128 ⌝ }
-    ensures { λ r. ⌜ (r ≡ start + 1 + length (members required)) × (r ≤ start + 65) × (now (numbers .exit) ≡ sets (now (numbers .entry)) start (length (members required) ∷ members required)) ⌝ }
+    ensures { λ r. ⌜ (r ≡ start + 1 + length (members required))
+        × (r ≤ start + 65)
+        × (now (numbers .exit) ≡ sets (now (numbers .entry)) start (requiredSection required)) ⌝ }
 {
     numbers[start] = sets::size(required) as u32;
     let mut at = start + 1;
@@ -95,9 +102,17 @@ fn collect_required(required: u64, start: usize, numbers: &mut [u32; 1024]) -> u
 }
 
 // Rule count and rules stored from `start` on; the place after them.
-fn collect_rules(kind: &[u8; 256], left: &[u8; 256], right: &[u8; 256], count: usize, start: usize, numbers: &mut [u32; 1024]) -> usize
+fn collect_rules(
+    kind: &[u8; 256],
+    left: &[u8; 256],
+    right: &[u8; 256],
+    count: usize,
+    start: usize,
+    numbers: &mut [u32; 1024],
+) -> usize
     requires { ⌜ (count ≤ 256) × (start ≤ 193) ⌝ }
-    ensures { λ r. ⌜ (r ≡ start + 1 + 3 * count) × (now (numbers .exit) ≡ sets (now (numbers .entry)) start (count ∷ ruleNumbers (rulesFrom (now (kind .entry)) (now (left .entry)) (now (right .entry)) 0 count))) ⌝ }
+    ensures { λ r. ⌜ (r ≡ start + 1 + 3 * count)
+        × (now (numbers .exit) ≡ sets (now (numbers .entry)) start (ruleSection (now (kind .entry)) (now (left .entry)) (now (right .entry)) count)) ⌝ }
 {
     numbers[start] = count as u32;
     let mut at = start + 1;
@@ -115,7 +130,9 @@ fn collect_rules(kind: &[u8; 256], left: &[u8; 256], right: &[u8; 256], count: u
 // The numbers of the rule file stored at the start; how many they are.
 fn collect(rules: Rules, numbers: &mut [u32; 1024]) -> usize
     requires { ⌜ (1 ≤ rules .paths) × (rules .paths ≤ 64) × (rules .rules ≤ 256) ⌝ }
-    ensures { λ r. ⌜ (r ≡ length (numbersOf (rulesOf rules))) × (r ≤ 1024) × (now (numbers .exit) ≡ sets (now (numbers .entry)) 0 (numbersOf (rulesOf rules))) ⌝ }
+    ensures { λ r. ⌜ (r ≡ length (numbersOf (rulesOf rules)))
+        × (r ≤ 1024)
+        × (now (numbers .exit) ≡ sets (now (numbers .entry)) 0 (numbersOf (rulesOf rules))) ⌝ }
 {
     let parent = rules.parent;
     let label = rules.label;
@@ -129,7 +146,7 @@ fn collect(rules: Rules, numbers: &mut [u32; 1024]) -> usize
 
 // The rule file of a table put into `out`: refusal 12 for a table that is not valid, then 20.
 pub fn write_rules(rules: Rules, out: &mut [u8]) -> Written
-    ensures { λ r. ⌜ Puts (writeAnswer rules (now (out .entry))) r (now (out .exit)) ⌝ }
+    ensures { λ r. ⌜ WriteRules rules (now (out .entry)) r (now (out .exit)) ⌝ }
 {
     if !valid_table(rules) {
         return Written::Refused(12, 0);

@@ -147,10 +147,12 @@ module _ {parent : ℕ → ℕ} {rules : List Rule} {count : ℕ} {reach : ℕ �
         → KidOf parent rules (a .path) (a .goals) k
     named-kid {a} {k} n m = kids-are desc within decides a k (named-goals n) m
 
-    fits : Fits parent count pathOf (kidsOf parent count reach) (partZero goals ∷ [])
+    -- every naming of a named part fits the table
+    pub fits : Fits parent count pathOf (kidsOf parent count reach) (partZero goals ∷ [])
     fits = record { each = λ a k n m. kid-stands desc within decides (named-goals n) (named-kid n m) }
 
-    falls : Falls (kidsOf parent count reach) (λ a. count - a .path) (partZero goals ∷ [])
+    -- no naming goes round
+    pub falls : Falls (kidsOf parent count reach) (λ a. count - a .path) (partZero goals ∷ [])
     falls = record {
       each = λ a k n m. let s = fits .each a k n m in omega (arith, kid-greater s, s .small);
     }

@@ -1,11 +1,11 @@
 -- The laws of steps, walks and reachable: determined by the code, joined, taken apart, moved to a prefix.
-use Prim.Native.Nat.{ℕ, suc, _+_, _*_, _<_}
+use Prim.Native.Nat.{ℕ, _<_}
 use mathlib.Core.Path.{_≡_, refl, sym, ap, _∙_, subst}
-use mathlib.Core.Logic.{_⊎_}
 use mathlib.Core.List.{List, [], _∷_, _++_}
 use native.Mathlib.Omega.{arith}
+use lib.ListN.{length}
 use Rattle.files.specs.Table.{Rule, Numbered, first, later}
-use Rattle.documents.specs.Paths.{Below, same, up, Descending}
+use Rattle.documents.specs.Paths.{Below}
 use Rattle.documents.proofs.Paths.{below-trans}
 use Rattle.reasoning.specs.Walk.{Step, climb, along, against, Walk, stay, step, Reach}
 
@@ -13,6 +13,11 @@ use Rattle.reasoning.specs.Walk.{Step, climb, along, against, Walk, stay
 pub numbered-unique : {rules : List Rule} {r : ℕ} {a b : Rule} → Numbered rules r a → Numbered rules r b → a ≡ b
 numbered-unique first first = refl
 numbered-unique (later m) (later n) = numbered-unique m n
+
+-- a rule's number is below the number of rules
+pub numbered-lt : {rules : List Rule} {r : ℕ} {ru : Rule} → Numbered rules r ru → r < length rules
+numbered-lt first = omega arith
+numbered-lt (later n) = omega (arith, numbered-lt n)
 
 -- the first step of a walk: where it leads, and the walk from there
 pub record Onward (parent : ℕ → ℕ) (rules : List Rule) (c x code : ℕ) (codes : List ℕ) (y : ℕ) : Type 0 where
@@ -52,13 +57,13 @@ module _ {parent : ℕ → ℕ} {rules : List Rule} where
 
   -- two walks, one after the other
   pub walk-append : {c x y z : ℕ} {s t : List ℕ} → Walk parent rules c x s y → Walk parent rules c y t z
-    → Walk parent rules c x (s ++ t) z
+      → Walk parent rules c x (s ++ t) z
   walk-append (stay h) v = v
   walk-append (step h s w) v = step h s (walk-append w v)
 
   -- a walk and one step more
   pub walk-last : {c x y z code : ℕ} {s : List ℕ} → Walk parent rules c x s y → Step parent rules y code z → Below parent c z
-    → Walk parent rules c x (s ++ (code ∷ [])) z
+      → Walk parent rules c x (s ++ (code ∷ [])) z
   walk-last w s h = walk-append w (step (walk-end w) s (stay h))
 
   -- a walk inside c is one inside every prefix of c

@@ -1,13 +1,12 @@
 -- The order on written walks is total and strict, so there is at most one written walk.
-use Prim.Native.Nat.{ℕ, zero, suc, _<_}
-use mathlib.Core.Path.{_≡_, refl, sym, ap, ap₂, subst}
+use Prim.Native.Nat.{ℕ, _<_}
+use mathlib.Core.Path.{_≡_, refl, sym, ap₂, subst}
 use mathlib.Core.Logic.{_⊎_, inl, inr}
 use mathlib.Core.List.{List, [], _∷_}
 use native.Mathlib.Omega.{arith}
-use native.Mathlib.Decide.{ℕ-discrete, decLt}
+use native.Mathlib.Decide.{decLt}
 use lib.ListN.{length}
 use Rattle.files.specs.Table.{Rule}
-use Rattle.reasoning.specs.Walk.{Walk}
 use Rattle.reasoning.specs.Written.{Smaller, here, later, Before, shorter, smaller, Written}
 
 -- of two numbers
@@ -23,11 +22,6 @@ compared a b = pick (decLt a b) (decLt b a)
     pick (yes h) k = less h
     pick (no h) (yes k) = more k
     pick (no h) (no k) = equal (omega arith)
-
--- the smaller of two lists is as long
-pub smaller-length : {s t : List ℕ} → Smaller s t → length s ≡ length t
-smaller-length (here h e) = ap suc e
-smaller-length (later h) = ap suc (smaller-length h)
 
 -- nothing is smaller than itself
 pub smaller-irreflexive : {s : List ℕ} → Smaller s s → ⊥
@@ -48,13 +42,15 @@ smaller-total (a ∷ s) (b ∷ t) e = pick (compared a b) (smaller-total s t (om
   where
     shorts : length s ≡ length t
     shorts = omega arith
+
     equal-heads : a ≡ b → Smaller s t ⊎ ((s ≡ t) ⊎ Smaller t s)
-      → Smaller (a ∷ s) (b ∷ t) ⊎ (((a ∷ s) ≡ (b ∷ t)) ⊎ Smaller (b ∷ t) (a ∷ s))
+        → Smaller (a ∷ s) (b ∷ t) ⊎ (((a ∷ s) ≡ (b ∷ t)) ⊎ Smaller (b ∷ t) (a ∷ s))
     equal-heads p (inl h) = inl (subst (λ (z : ℕ). Smaller (a ∷ s) (z ∷ t)) p (later h))
     equal-heads p (inr (inl h)) = inr (inl (ap₂ (λ (x : ℕ) (l : List ℕ). x ∷ l) p h))
     equal-heads p (inr (inr h)) = inr (inr (subst (λ (z : ℕ). Smaller (z ∷ t) (a ∷ s)) p (later h)))
+
     pick : Compared a b → Smaller s t ⊎ ((s ≡ t) ⊎ Smaller t s)
-      → Smaller (a ∷ s) (b ∷ t) ⊎ (((a ∷ s) ≡ (b ∷ t)) ⊎ Smaller (b ∷ t) (a ∷ s))
+        → Smaller (a ∷ s) (b ∷ t) ⊎ (((a ∷ s) ≡ (b ∷ t)) ⊎ Smaller (b ∷ t) (a ∷ s))
     pick (less h) again = inl (here h shorts)
     pick (equal p) again = equal-heads p again
     pick (more h) again = inr (inr (here h (sym shorts)))
@@ -67,6 +63,7 @@ before-total s t = pick (compared (length s) (length t))
     same-length (inl h) = inl (smaller h)
     same-length (inr (inl h)) = inr (inl h)
     same-length (inr (inr h)) = inr (inr (smaller h))
+
     pick : Compared (length s) (length t) → Before s t ⊎ ((s ≡ t) ⊎ Before t s)
     pick (less h) = inl (shorter h)
     pick (equal e) = same-length (smaller-total s t e)
@@ -74,7 +71,7 @@ before-total s t = pick (compared (length s) (length t))
 
 -- there is one written walk
 pub written-unique : {parent : ℕ → ℕ} {rules : List Rule} {c x y : ℕ} {s t : List ℕ} → Written parent rules c x s y
-  → Written parent rules c x t y → s ≡ t
+    → Written parent rules c x t y → s ≡ t
 written-unique {s = s} {t = t} a b = pick (before-total s t)
   where
     pick : Before s t ⊎ ((s ≡ t) ⊎ Before t s) → s ≡ t

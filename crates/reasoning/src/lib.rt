@@ -1,1 +1,5 @@
 // Walks, dead paths, evidence, and the documents handed back.
+pub mod consistency;
+pub mod question;
+pub(crate) mod reach;
+pub(crate) mod steps;

@@ -1,8 +1,7 @@
+-- `files::number::put_number` meets its contract: its bytes are stored one by one.
 use borrow.Author.Needs.{needs}
 use Rattle.files.proofs.number.put_number.Statement.{statement}
 use Rattle.files.proofs.number.put_number.Tie as tie
-use Rattle.files.proofs.number.put_number.Reads as reads
-use Rattle.files.proofs.number.put_number.Lts as lts
 use Rattle.files.proofs.Stores.{store-laws}
 
 cast-out : tie.Need-cast-out

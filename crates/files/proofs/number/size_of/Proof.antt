@@ -1,7 +1,6 @@
+-- `files::number::size_of` meets its contract: a number below 128 takes one byte, any other two.
 use Rattle.files.proofs.number.size_of.Statement.{statement}
 use Rattle.files.proofs.number.size_of.Tie as tie
-use Rattle.files.proofs.number.size_of.Reads as reads
-use Rattle.files.proofs.number.size_of.Lts as lts
 use borrow.Author.Needs.{needs}
 use Rattle.files.proofs.Stores.{size-laws}
 

@@ -3,7 +3,7 @@ use Rattle.files.proofs.read.read_required.Tie as tie
 use Rattle.files.proofs.read.read_required.Reads as reads
 use Rattle.files.proofs.read.read_required.Lts as lts
 use Rattle.files.proofs.read.read_between.Reads as read-between-reads
-use Rattle.files.proofs.read.wide_number.Reads as wide-number-reads
+use Rattle.files.proofs.number.wide_number.Reads as wide-number-reads
 use Rattle.files.proofs.sets.with.Reads as with-reads
 use borrow.Author.Needs.{needs}
 use Rattle.files.proofs.ReaderRules.{RequiredSoFar, required-laws}

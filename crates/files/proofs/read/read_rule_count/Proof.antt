@@ -6,7 +6,7 @@ use Rattle.files.proofs.read.read_rule_count.Lts as lts
 use Rattle.files.proofs.read.read_between.Reads as read-between-reads
 use Rattle.files.proofs.read.read_to_end.Reads as read-to-end-reads
 use Rattle.files.proofs.read.refuse.Reads as refuse-reads
-use Rattle.files.proofs.read.wide_number.Reads as wide-number-reads
+use Rattle.files.proofs.number.wide_number.Reads as wide-number-reads
 use Rattle.files.proofs.ReaderFile.{file-laws}
 
 read-between-requires : tie.Need-read-between-requires

@@ -19,8 +19,8 @@ loop-holds c = search (needs, rules-laws)
 read-rule-requires : tie.Need-read-rule-requires Inv-loop μ-loop
 read-rule-requires c κs = search (needs, rules-laws)
 
-enum-known-why : tie.Need-enum-known-why Inv-loop μ-loop
-enum-known-why c = search (needs, rules-laws)
+enum-known-number : tie.Need-enum-known-number Inv-loop μ-loop
+enum-known-number c = search (needs, rules-laws)
 
 returns : tie.Need-returns Inv-loop μ-loop
 returns c = search (needs, rules-laws)
@@ -57,7 +57,7 @@ read-rule-list-spec =
     μ-loop
     loop-holds
     read-rule-requires
-    enum-known-why
+    enum-known-number
     returns
     enum-known-k
     array-write-kind

@@ -1,12 +1,7 @@
+-- `files::valid::path_depth` meets its contract: a branch for each test that a path may fail.
 use borrow.Author.Needs.{needs}
 use Rattle.files.proofs.valid.path_depth.Statement.{statement}
 use Rattle.files.proofs.valid.path_depth.Tie as tie
-use Rattle.files.proofs.valid.path_depth.Reads as reads
-use Rattle.files.proofs.valid.path_depth.Lts as lts
-use Rattle.files.proofs.read.parent_test.Reads as parent-test-reads
-use Rattle.files.proofs.read.repeats.Reads as repeats-reads
-use Rattle.files.proofs.read.wide32.Reads as wide32-reads
-use Rattle.files.proofs.read.wide_number.Reads as wide-number-reads
 use Rattle.files.proofs.Tester.{depth-laws}
 
 element-copy-out-wide32 : tie.Need-element-copy-out-wide32

@@ -1,8 +1,6 @@
+-- `files::valid::paths_pass` meets its contract: the depths are those of the paths so far, and what remains decides.
 use Rattle.files.proofs.valid.paths_pass.Statement.{statement}
 use Rattle.files.proofs.valid.paths_pass.Tie as tie
-use Rattle.files.proofs.valid.paths_pass.Reads as reads
-use Rattle.files.proofs.valid.paths_pass.Lts as lts
-use Rattle.files.proofs.valid.path_depth.Reads as path-depth-reads
 use borrow.Author.Needs.{needs}
 use Prim.Native.Nat.{_-_, _≤_}
 use mathlib.Core.Path.{_≡_}
@@ -13,7 +11,11 @@ use Rattle.files.specs.Writing.{pathsPass}
 use Rattle.files.proofs.Tester.{pass-laws}
 
 abbrev Inv-loop : tie.InvT-loop
-Inv-loop parent label count depth₀ own₀ depth own = (1 ≤ own) × (own ≤ count) × (depth ≡ padded 64 (depths (pathsFrom parent label 1 (own - 1)))) × (pathsPass (pathsFrom parent label 1 (own - 1)) (pathsFrom parent label own (count - own)) ≡ pathsPass [] (pathsFrom parent label 1 (count - 1)))
+Inv-loop parent label count depth₀ own₀ depth own =
+    (1 ≤ own)
+    × (own ≤ count)
+    × (depth ≡ padded 64 (depths (pathsFrom parent label 1 (own - 1))))
+    × (pathsPass (pathsFrom parent label 1 (own - 1)) (pathsFrom parent label own (count - own)) ≡ pathsPass [] (pathsFrom parent label 1 (count - 1)))
 
 abbrev μ-loop : tie.MeasureT-loop
 μ-loop parent label count depth₀ own₀ depth own = count - own

@@ -1,9 +1,7 @@
+-- `files::valid::paths_valid` meets its contract: count, root label, then the other paths.
 use borrow.Author.Needs.{needs}
 use Rattle.files.proofs.valid.paths_valid.Statement.{statement}
 use Rattle.files.proofs.valid.paths_valid.Tie as tie
-use Rattle.files.proofs.valid.paths_valid.Reads as reads
-use Rattle.files.proofs.valid.paths_valid.Lts as lts
-use Rattle.files.proofs.valid.paths_pass.Reads as paths-pass-reads
 use Rattle.files.proofs.Tester.{paths-valid-laws}
 
 returns : tie.Need-returns

@@ -1,11 +1,7 @@
+-- `files::valid::required_pass` meets its contract: the root's bit, and the bits past the count.
 use borrow.Author.Needs.{needs}
 use Rattle.files.proofs.valid.required_pass.Statement.{statement}
 use Rattle.files.proofs.valid.required_pass.Tie as tie
-use Rattle.files.proofs.valid.required_pass.Reads as reads
-use Rattle.files.proofs.valid.required_pass.Lts as lts
-use Rattle.files.proofs.sets.below.Reads as below-reads
-use Rattle.files.proofs.sets.common.Reads as common-reads
-use Rattle.files.proofs.sets.difference.Reads as difference-reads
 use Rattle.files.proofs.Tester.{required-laws}
 
 common-requires : tie.Need-common-requires

@@ -1,9 +1,7 @@
+-- `files::valid::rule_passes` meets its contract: a branch for each test that a rule may fail.
 use borrow.Author.Needs.{needs}
 use Rattle.files.proofs.valid.rule_passes.Statement.{statement}
 use Rattle.files.proofs.valid.rule_passes.Tie as tie
-use Rattle.files.proofs.valid.rule_passes.Reads as reads
-use Rattle.files.proofs.valid.rule_passes.Lts as lts
-use Rattle.files.proofs.read.wide.Reads as wide-reads
 use Rattle.files.proofs.Tester.{rule-laws}
 
 element-copy-out-k : tie.Need-element-copy-out-k

@@ -1,8 +1,6 @@
+-- `files::valid::rules_pass` meets its contract: what remains decides.
 use Rattle.files.proofs.valid.rules_pass.Statement.{statement}
 use Rattle.files.proofs.valid.rules_pass.Tie as tie
-use Rattle.files.proofs.valid.rules_pass.Reads as reads
-use Rattle.files.proofs.valid.rules_pass.Lts as lts
-use Rattle.files.proofs.valid.rule_passes.Reads as rule-passes-reads
 use borrow.Author.Needs.{needs}
 use Prim.Native.Nat.{_-_, _≤_}
 use mathlib.Core.Path.{_≡_}
@@ -11,7 +9,9 @@ use Rattle.files.specs.Writing.{rulesPass}
 use Rattle.files.proofs.Tester.{all-laws}
 
 abbrev Inv-loop : tie.InvT-loop
-Inv-loop kind left right many count x₀ x = (x ≤ many) × (rulesPass count (rulesFrom kind left right x (many - x)) ≡ rulesPass count (rulesFrom kind left right 0 many))
+Inv-loop kind left right many count x₀ x =
+    (x ≤ many)
+    × (rulesPass count (rulesFrom kind left right x (many - x)) ≡ rulesPass count (rulesFrom kind left right 0 many))
 
 abbrev μ-loop : tie.MeasureT-loop
 μ-loop kind left right many count x₀ x = many - x

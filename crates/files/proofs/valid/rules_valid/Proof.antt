@@ -1,9 +1,7 @@
+-- `files::valid::rules_valid` meets its contract: the count, then the rules.
 use borrow.Author.Needs.{needs}
 use Rattle.files.proofs.valid.rules_valid.Statement.{statement}
 use Rattle.files.proofs.valid.rules_valid.Tie as tie
-use Rattle.files.proofs.valid.rules_valid.Reads as reads
-use Rattle.files.proofs.valid.rules_valid.Lts as lts
-use Rattle.files.proofs.valid.rules_pass.Reads as rules-pass-reads
 use Rattle.files.proofs.Tester.{rules-valid-laws}
 
 returns : tie.Need-returns

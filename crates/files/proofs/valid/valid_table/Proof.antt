@@ -1,11 +1,7 @@
+-- `files::valid::valid_table` meets its contract: paths, required paths, rules.
 use borrow.Author.Needs.{needs}
 use Rattle.files.proofs.valid.valid_table.Statement.{statement}
 use Rattle.files.proofs.valid.valid_table.Tie as tie
-use Rattle.files.proofs.valid.valid_table.Reads as reads
-use Rattle.files.proofs.valid.valid_table.Lts as lts
-use Rattle.files.proofs.valid.paths_valid.Reads as paths-valid-reads
-use Rattle.files.proofs.valid.required_pass.Reads as required-pass-reads
-use Rattle.files.proofs.valid.rules_valid.Reads as rules-valid-reads
 use Rattle.files.proofs.Tester.{table-laws}
 
 paths-valid-requires : tie.Need-paths-valid-requires

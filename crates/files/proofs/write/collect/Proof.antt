@@ -1,11 +1,7 @@
+-- `files::write::collect` meets its contract: three sections, one after the other.
 use borrow.Author.Needs.{needs}
 use Rattle.files.proofs.write.collect.Statement.{statement}
 use Rattle.files.proofs.write.collect.Tie as tie
-use Rattle.files.proofs.write.collect.Reads as reads
-use Rattle.files.proofs.write.collect.Lts as lts
-use Rattle.files.proofs.write.collect_paths.Reads as collect-paths-reads
-use Rattle.files.proofs.write.collect_required.Reads as collect-required-reads
-use Rattle.files.proofs.write.collect_rules.Reads as collect-rules-reads
 use Rattle.files.proofs.Writer.{collect-laws}
 
 collect-paths-requires : tie.Need-collect-paths-requires

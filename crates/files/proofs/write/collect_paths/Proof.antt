@@ -1,8 +1,6 @@
+-- `files::write::collect_paths` meets its contract: what is stored and what remains is the whole.
 use Rattle.files.proofs.write.collect_paths.Statement.{statement}
 use Rattle.files.proofs.write.collect_paths.Tie as tie
-use Rattle.files.proofs.write.collect_paths.Reads as reads
-use Rattle.files.proofs.write.collect_paths.Lts as lts
-use Rattle.files.proofs.read.wide32.Reads as wide32-reads
 use borrow.Author.Needs.{needs}
 use Prim.Native.Nat.{_*_, _-_, _≤_}
 use mathlib.Core.Path.{_≡_}
@@ -12,7 +10,11 @@ use Rattle.files.specs.Rules.{pathsFrom}
 use Rattle.files.proofs.Collect.{paths-laws}
 
 abbrev Inv-loop : tie.InvT-loop
-Inv-loop parent label count numbers₀ at₀ x₀ numbers at x = (1 ≤ x) × (x ≤ count) × (at ≡ 2 * x) × (sets numbers at (pathNumbers (pathsFrom parent label x (count - x))) ≡ sets numbers₀ 2 (pathNumbers (pathsFrom parent label 1 (count - 1))))
+Inv-loop parent label count numbers₀ at₀ x₀ numbers at x =
+    (1 ≤ x)
+    × (x ≤ count)
+    × (at ≡ 2 * x)
+    × (sets numbers at (pathNumbers (pathsFrom parent label x (count - x))) ≡ sets numbers₀ 2 (pathNumbers (pathsFrom parent label 1 (count - 1))))
 
 abbrev μ-loop : tie.MeasureT-loop
 μ-loop parent label count numbers₀ at₀ x₀ numbers at x = count - x

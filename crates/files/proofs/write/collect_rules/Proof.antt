@@ -1,8 +1,6 @@
+-- `files::write::collect_rules` meets its contract: what is stored and what remains is the whole.
 use Rattle.files.proofs.write.collect_rules.Statement.{statement}
 use Rattle.files.proofs.write.collect_rules.Tie as tie
-use Rattle.files.proofs.write.collect_rules.Reads as reads
-use Rattle.files.proofs.write.collect_rules.Lts as lts
-use Rattle.files.proofs.read.wide32.Reads as wide32-reads
 use borrow.Author.Needs.{needs}
 use Prim.Native.Nat.{_+_, _*_, _-_, _≤_}
 use mathlib.Core.Path.{_≡_}
@@ -12,7 +10,10 @@ use Rattle.files.specs.Rules.{rulesFrom}
 use Rattle.files.proofs.Collect.{rules-laws}
 
 abbrev Inv-loop : tie.InvT-loop
-Inv-loop kind left right count start numbers₀ at₀ x₀ numbers at x = (x ≤ count) × (at ≡ start + 1 + 3 * x) × (sets numbers at (ruleNumbers (rulesFrom kind left right x (count - x))) ≡ sets numbers₀ (start + 1) (ruleNumbers (rulesFrom kind left right 0 count)))
+Inv-loop kind left right count start numbers₀ at₀ x₀ numbers at x =
+    (x ≤ count)
+    × (at ≡ start + 1 + 3 * x)
+    × (sets numbers at (ruleNumbers (rulesFrom kind left right x (count - x))) ≡ sets numbers₀ (start + 1) (ruleNumbers (rulesFrom kind left right 0 count)))
 
 abbrev μ-loop : tie.MeasureT-loop
 μ-loop kind left right count start numbers₀ at₀ x₀ numbers at x = count - x

@@ -1,10 +1,7 @@
+-- `files::write::put_numbers` meets its contract: the size is known before the first store.
 use borrow.Author.Needs.{needs}
 use Rattle.files.proofs.write.put_numbers.Statement.{statement}
 use Rattle.files.proofs.write.put_numbers.Tie as tie
-use Rattle.files.proofs.write.put_numbers.Reads as reads
-use Rattle.files.proofs.write.put_numbers.Lts as lts
-use Rattle.files.proofs.write.size_of_all.Reads as size-of-all-reads
-use Rattle.files.proofs.write.store_all.Reads as store-all-reads
 use Rattle.files.proofs.Stores.{puts-laws}
 
 size-of-all-requires : tie.Need-size-of-all-requires

@@ -1,8 +1,6 @@
+-- `files::write::size_of_all` meets its contract: what is counted and what remains is the whole.
 use Rattle.files.proofs.write.size_of_all.Statement.{statement}
 use Rattle.files.proofs.write.size_of_all.Tie as tie
-use Rattle.files.proofs.write.size_of_all.Reads as reads
-use Rattle.files.proofs.write.size_of_all.Lts as lts
-use Rattle.files.proofs.number.size_of.Reads as size-of-reads
 use borrow.Author.Needs.{needs}
 use Prim.Native.Nat.{_+_, _*_, _-_, _≤_}
 use mathlib.Core.Path.{_≡_}
@@ -12,7 +10,10 @@ use Rattle.files.specs.Writing.{wrapped}
 use Rattle.files.proofs.Stores.{bytesFrom, all-laws}
 
 abbrev Inv-loop : tie.InvT-loop
-Inv-loop numbers size₀ i₀ size i = (i ≤ length numbers) × (size ≤ 2 * i) × (size + length (bytesFrom numbers i) ≡ length (bytesOfAll (wrapped numbers)))
+Inv-loop numbers size₀ i₀ size i =
+    (i ≤ length numbers)
+    × (size ≤ 2 * i)
+    × (size + length (bytesFrom numbers i) ≡ length (bytesOfAll (wrapped numbers)))
 
 abbrev μ-loop : tie.MeasureT-loop
 μ-loop numbers size₀ i₀ size i = length numbers - i

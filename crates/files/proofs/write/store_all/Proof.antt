@@ -1,8 +1,6 @@
+-- `files::write::store_all` meets its contract: what is stored and what remains is the whole.
 use Rattle.files.proofs.write.store_all.Statement.{statement}
 use Rattle.files.proofs.write.store_all.Tie as tie
-use Rattle.files.proofs.write.store_all.Reads as reads
-use Rattle.files.proofs.write.store_all.Lts as lts
-use Rattle.files.proofs.number.put_number.Reads as put-number-reads
 use borrow.Author.Needs.{needs}
 use Prim.Native.Nat.{_+_, _-_, _≤_}
 use mathlib.Core.Path.{_≡_}
@@ -13,7 +11,11 @@ use Rattle.files.specs.Writing.{wrapped}
 use Rattle.files.proofs.Stores.{bytesFrom, all-laws}
 
 abbrev Inv-loop : tie.InvT-loop
-Inv-loop numbers out₀ at₀ i₀ out at i = (i ≤ length numbers) × (length out ≡ length out₀) × (at + length (bytesFrom numbers i) ≤ length out₀) × (sets out at (bytesFrom numbers i) ≡ sets out₀ 0 (bytesOfAll (wrapped numbers)))
+Inv-loop numbers out₀ at₀ i₀ out at i =
+    (i ≤ length numbers)
+    × (length out ≡ length out₀)
+    × (at + length (bytesFrom numbers i) ≤ length out₀)
+    × (sets out at (bytesFrom numbers i) ≡ sets out₀ 0 (bytesOfAll (wrapped numbers)))
 
 abbrev μ-loop : tie.MeasureT-loop
 μ-loop numbers out₀ at₀ i₀ out at i = length numbers - i

@@ -1,18 +1,16 @@
+-- `files::write::write_rules` meets its contract: a table that passes has a file, and its numbers are collected.
 use borrow.Author.Needs.{needs}
+use native.Mathlib.Omega.{arith}
 use Rattle.files.proofs.write.write_rules.Statement.{statement}
 use Rattle.files.proofs.write.write_rules.Tie as tie
-use Rattle.files.proofs.write.write_rules.Reads as reads
-use Rattle.files.proofs.write.write_rules.Lts as lts
-use Rattle.files.proofs.valid.valid_table.Reads as valid-table-reads
-use Rattle.files.proofs.write.collect.Reads as collect-reads
-use Rattle.files.proofs.write.put_numbers.Reads as put-numbers-reads
 use Rattle.files.proofs.Writer.{write-laws}
+use Rattle.files.proofs.WritingJoins.{writes-rules}
 
 valid-table-requires : tie.Need-valid-table-requires
 valid-table-requires c κs = search needs
 
 returns : tie.Need-returns
-returns c = search (needs, write-laws)
+returns c = writes-rules _ (omega (arith, c .before .before .before .good)) _ _ _ (search (needs, write-laws))
 
 collect-requires : tie.Need-collect-requires
 collect-requires c κs = search (needs, write-laws)
@@ -30,7 +28,7 @@ same-length : tie.Need-same-length
 same-length c = search needs
 
 returns-2 : tie.Need-returns-2
-returns-2 c = search (needs, write-laws)
+returns-2 c = writes-rules _ (omega (arith, c .before .before .before .before .before .before .before .before .before .before .good)) _ _ _ (search (needs, write-laws))
 
 pub write-rules-spec : {M : Type 1} → statement M
 write-rules-spec =

@@ -1,0 +1,41 @@
+use borrow.Author.Needs.{needs}
+use Rattle.listing.proofs.lay.put_digits.Statement.{statement}
+use Rattle.listing.proofs.lay.put_digits.Tie as tie
+use Rattle.listing.proofs.lay.put_digits.Reads as reads
+use Rattle.listing.proofs.lay.put_digits.Lts as lts
+use Rattle.listing.proofs.lay.digits_of.Reads as digits-of-reads
+use Rattle.listing.proofs.lay.put.Reads as put-reads
+use Rattle.listing.proofs.Puts.{lent-laws}
+
+digits-of-requires : tie.Need-digits-of-requires
+digits-of-requires c κs = search needs
+
+sub-put : tie.Need-sub-put
+sub-put c = search needs
+
+part-put-start : tie.Need-part-put-start
+part-put-start c = search needs
+
+part-put-end : tie.Need-part-put-end
+part-put-end c = search needs
+
+put-requires : tie.Need-put-requires
+put-requires c κs = search needs
+
+same-length : tie.Need-same-length
+same-length c = search needs
+
+returns : tie.Need-returns
+returns c = search (needs, lent-laws)
+
+pub put-digits-spec : {M : Type 1} → statement M
+put-digits-spec =
+    tie.close
+    (tie.spec
+    digits-of-requires
+    sub-put
+    part-put-start
+    part-put-end
+    put-requires
+    same-length
+    returns)

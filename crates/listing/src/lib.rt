@@ -1,0 +1,2 @@
+// The text that the verdict program prints, laid out in blocks.
+pub mod lay;
