@@ -8,18 +8,18 @@ use lib.ListN.{length, getD}
 use borrow.Author.Tests.{lt-ltb, le-ltb, not-true, not-false}
 use Rattle.files.specs.declared.rules.Rules.{Rules}
 use Rattle.files.specs.Format.{Outcome, got, refused, runAll}
-use Rattle.files.specs.Rules.{rulesOf}
+use Rattle.files.specs.Rules.{rulesOf, parentsIn}
 use Rattle.files.specs.Table.{parentIn}
 use Rattle.files.specs.Writing.{tablePasses}
 use Rattle.documents.specs.declared.check.Checked.{Checked}
 use Rattle.documents.specs.declared.check.Checked.the-variants.{Refused}
 use Rattle.documents.specs.declared.document.Listed.{Listed}
 use Rattle.documents.specs.PartList.{Entry, entryPath, entryKids, documentFile}
-use Rattle.documents.specs.Reading.{parentAt, kidsAt, entriesFrom, TableParents, DocumentAnswer}
+use Rattle.documents.specs.Reading.{parentAt, kidsAt, entriesFrom, DocumentAnswer}
 use Rattle.documents.specs.Reading.DocumentAnswer.{read, stopped}
 use Rattle.documents.specs.Checking.{held, brokenFrom, verdict, judged, checkAnswer}
 use Rattle.documents.specs.Held.{Laid}
-use Rattle.documents.proofs.Climbing.{parents-are}
+use Rattle.documents.proofs.Climbing.{parents-is}
 use Rattle.documents.proofs.PartLists.{entries-length}
 use Rattle.documents.proofs.ValidLists.{Good, read-good, small, above, inside}
 
@@ -41,7 +41,7 @@ entries-kids s path place n (suc k) (suc i) h =
 
 -- ---- the parts that were read, judged
 
-module _ (t : Rules) (s : List ℕ) (parent : List ℕ) (few : t .paths ≤ 64) (parents : TableParents (t .parent) (t .paths) parent)
+module _ (t : Rules) (s : List ℕ) (parent : List ℕ) (few : t .paths ≤ 64) (parents : parent ≡ parentsIn (t .parent) (t .paths))
     (path place : List ℕ) (r : Listed)
     (a : DocumentAnswer s path place (runAll (documentFile (parentAt parent) (t .paths % 256)) s) r) where
   -- the document's format, in the words of the code and of the table
@@ -49,7 +49,7 @@ module _ (t : Rules) (s : List ℕ) (parent : List ℕ) (few : t .paths ≤ 64) 
   unfolding rulesOf
   file-is =
       let e : t .paths % 256 ≡ t .paths = omega arith in
-      ap₂ (λ (p : ℕ → ℕ) (n : ℕ). runAll (documentFile p n) s) (parents-are (t .parent) (t .label) (t .paths) parent few parents) e
+      ap₂ (λ (p : ℕ → ℕ) (n : ℕ). runAll (documentFile p n) s) (parents-is (t .parent) (t .label) (t .paths) parent few parents) e
 
   pub check-refused : {k at : ℕ} → r ≡ Listed.Refused k at
       → Refused k at ≡ judged (parentIn (rulesOf t .paths)) (rulesOf t .rules) (t .required)
@@ -135,7 +135,7 @@ module _ (t : Rules) (s : List ℕ) (parent : List ℕ) (few : t .paths ≤ 64) 
         g
         ∙ ap (λ (p : ℕ → ℕ). verdict (t .required) (getD (held (entriesFrom s path place 0 count)) 0 0)
         (brokenFrom p 0 (rulesOf t .rules) (entriesFrom s path place 0 count) (held (entriesFrom s path place 0 count))))
-        (parents-are (t .parent) (t .label) (t .paths) parent few parents)
+        (parents-is (t .parent) (t .label) (t .paths) parent few parents)
         ∙ ap (judged (parentIn (rulesOf t .paths)) (rulesOf t .rules) (t .required)) (sym (taken .is) ∙ file-is)
 
 pub ruleset parts-laws = (check-refused, check-some, check-most, check-laid, check-is)

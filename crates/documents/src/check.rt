@@ -14,12 +14,12 @@ ghost use Rattle.documents.specs.Checking.{breaks, brokenFrom, held, orM
 ghost use Rattle.documents.specs.Reading.{parentAt, entriesFrom};
 ghost use Rattle.documents.specs.Held.{Laid, Forward, rule, firstOn, breakAlong, brokenAlong};
 use crate::context::context;
-use crate::context::parents;
 use crate::document::Listed;
 use crate::document::read_document;
 use crate::held::hold_all;
 use files::number::wide;
 use files::rules::Rules;
+use files::rules::parents;
 use files::sets::difference;
 use files::sets::has;
 use files::sets::lowest;

@@ -12,10 +12,10 @@ ghost use Rattle.documents.specs.Reading.{parentAt, KidsAnswer, PartAnsw
 use crate::context::parent_of;
 use files::number::Number;
 use files::number::read_number;
-use files::read::passed;
-use files::read::read_between;
 use files::number::wide;
 use files::number::wide_number;
+use files::read::passed;
+use files::read::read_between;
 use files::sets::with;
 
 // The place after a section, or its refusal.
