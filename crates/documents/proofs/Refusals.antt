@@ -1,6 +1,6 @@
 -- The refusals that a document's bytes can meet: 1, 2, 11 and 15 to 19. So 12 and 14 are given exactly by their own rows.
 use Prim.Native.Nat.{ℕ, zero, suc, _+_, _<_, _≤_}
-use mathlib.Core.Path.{_≡_, refl, sym, _∙_}
+use mathlib.Core.Path.{_≡_, refl, sym}
 use mathlib.Core.Logic.{_↔_, _⊎_, inl, inr}
 use mathlib.Core.Bool.{Bool, true, false, cond}
 use mathlib.Core.List.{List, [], _∷_, _++_}
@@ -9,7 +9,7 @@ use lib.ListN.{length}
 use lib.Dec.{ltb, leb, eqb}
 use Rattle.files.specs.declared.rules.Rules.{Rules}
 use Rattle.files.specs.Format.{Format, done, want, andThen, Leads, here, take, Stops, cut, long, own, left, RefusedAt}
-use Rattle.files.specs.RuleFile.{between, any}
+use Rattle.files.specs.RuleFile.{between}
 use Rattle.files.specs.Rules.{ValidTable}
 use Rattle.documents.specs.declared.check.Checked.{Checked}
 use Rattle.documents.specs.PartList.{Entry, namedTest, pathTest, moreKids, kidsOn, partAt, onePart, moreParts, documentFile}
@@ -64,12 +64,14 @@ path-row parent count n set p = by (eqb n 0) (eqb p 0) (ltb p count) (eqb set 0)
 kids-rows : (size k last : ℕ) (ks : List ℕ) → Rows (moreKids size k last ks)
 unfolding moreKids
 kids-rows size zero last ks = rows-done
-kids-rows size (suc k) last ks = rows-want (between-row (last + 1) size 19 (omega arith) (omega arith)) (λ x. kids-rows size k x (ks ++ (x ∷ [])))
+kids-rows size (suc k) last ks =
+    rows-want (between-row (last + 1) size 19 (omega arith) (omega arith)) (λ x. kids-rows size k x (ks ++ (x ∷ [])))
 
 part-rows : (parent : ℕ → ℕ) (count size : ℕ) (es : List Entry) → Rows (onePart parent count size es)
 unfolding onePart partAt kidsOn
 part-rows parent count size es =
-    rows-want (path-row parent count (length es) _) (λ p. rows-want (λ k. inl refl) (λ k. rows-then (kids-rows size k (length es) []) (λ ks. rows-done)))
+    rows-want (path-row parent count (length es) _)
+    (λ p. rows-want (λ k. inl refl) (λ k. rows-then (kids-rows size k (length es) []) (λ ks. rows-done)))
 
 parts-rows : (parent : ℕ → ℕ) (count size k : ℕ) (es : List Entry) → Rows (moreParts parent count size k es)
 unfolding moreParts

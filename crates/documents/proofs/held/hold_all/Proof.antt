@@ -1,10 +1,5 @@
 use Rattle.documents.proofs.held.hold_all.Statement.{statement}
 use Rattle.documents.proofs.held.hold_all.Tie as tie
-use Rattle.documents.proofs.held.hold_all.Reads as reads
-use Rattle.documents.proofs.held.hold_all.Lts as lts
-use Rattle.documents.proofs.held.children_hold.Reads as children-hold-reads
-use Rattle.files.proofs.number.wide.Reads as wide-reads
-use Rattle.files.proofs.sets.with.Reads as with-reads
 use native.Mathlib.Omega.{arith}
 use borrow.Author.Needs.{needs}
 use Rattle.documents.proofs.Holding.{link-start, link-more, link-end}
@@ -73,7 +68,8 @@ loop-less c = search (needs, link-start)
 loop-again : tie.Need-loop-again Inv-loop μ-loop
 loop-again c =
     let pre = c .before .before .before .before .before .before .before .before .before .before .pre in
-    link-more _ _ _ _ (pre .0) (pre .1) _ _ _ _ (c .before .before .before .before .before .before .before .before .loop .inv) (omega arith) _ _ _ (c .before .before .before .before .before .wide .ensures .0)
+    link-more _ _ _ _ (pre .0) (pre .1) _ _ _ _ (c .before .before .before .before .before .before .before .before .loop .inv)
+    (omega arith) _ _ _ (c .before .before .before .before .before .wide .ensures .0)
     (c .before .before .children-hold .ensures) (c .before .with .ensures)
 
 returns : tie.Need-returns Inv-loop μ-loop
