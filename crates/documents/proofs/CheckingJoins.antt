@@ -49,11 +49,11 @@ numbered-same (later a) (later b) = numbered-same a b
 -- ---- a valid table
 
 module _ (t : Rules) (v : ValidTable t) where
-  count-is : 1 + length (rulesOf t .paths) ≡ t .paths
+  pub count-is : 1 + length (rulesOf t .paths) ≡ t .paths
   unfolding rulesOf
   count-is = paths-own (t .parent) (t .label) (t .paths) (v .some)
 
-  few-paths : t .paths ≤ 64
+  pub few-paths : t .paths ≤ 64
   few-paths = omega (arith, count-is, v .valid .paths)
 
   past-table : (x : ℕ) → t .paths ≤ x → parentOf t x ≡ 0
@@ -72,7 +72,7 @@ module _ (t : Rules) (v : ValidTable t) where
   pub descending : Descending (parentOf t)
   descending = record { root = refl; smaller = below-own }
 
-  below-64 : (x : ℕ) → parentOf t x < 64
+  pub below-64 : (x : ℕ) → parentOf t x < 64
   below-64 zero = omega arith
   below-64 (suc x) = by (decLt (suc x) (t .paths))
     where

@@ -62,7 +62,7 @@ pub record Chosen (parent : ℕ → ℕ) (reach : ℕ → ℕ → ℕ → Bool) 
   pub is : k ≡ childFor parent (a .path) goal
 
 module _ (parent : ℕ → ℕ) (reach : ℕ → ℕ → ℕ → Bool) (a : Part) where
-  lacks-so : (chosen : List Part) (x : ℕ) → lacksb reach a chosen x ≡ true → (a .path ≡ x → ⊥) × T (coversb reach a x)
+  pub lacks-so : (chosen : List Part) (x : ℕ) → lacksb reach a chosen x ≡ true → (a .path ≡ x → ⊥) × T (coversb reach a x)
   unfolding lacksb
   lacks-so chosen x e = pick (eqb (a .path) x) (coversb reach a x) refl refl
     where

@@ -145,7 +145,7 @@ pub record Covering (parent : ℕ → ℕ) (rules : List Rule) (ks : List Part) 
 module _ {parent : ℕ → ℕ} {rules : List Rule} {count : ℕ} {reach : ℕ → ℕ → ℕ → Bool} (desc : Descending parent)
     (within : RulesIn count rules) (decides : Decides parent rules count reach) where
   -- covering is decided
-  covers-any : (a : Part) (x : ℕ) → Goals parent count (a .path) (a .goals) → x < count
+  pub covers-any : (a : Part) (x : ℕ) → Goals parent count (a .path) (a .goals) → x < count
       → T (coversb reach a x) ↔ ReachAny parent rules (a .path) (a .goals) x
   unfolding coversb
   covers-any a x v l = (

@@ -1,6 +1,8 @@
 -- The laws of walks, of reachable sets, of the decisions, of evidence and of the documents handed back.
+pub mod Agreeing
 pub mod Answers
 pub mod Completeness
+pub mod ConsistencyJoins
 pub mod Cut
 pub mod Decide
 pub mod Equivalences
@@ -24,12 +26,16 @@ pub mod HandedQuestions
 pub mod HandedRows
 pub mod HandedTree
 pub mod HandedWords
+pub mod HandsBack
 pub mod Kids
 pub mod Least
+pub mod Meaning
 pub mod Moves
 pub mod OneStep
 pub mod Order
 pub mod Pairs
+pub mod Placed
+pub mod QuestionJoins
 pub mod Reachable
 pub mod RootPair
 pub mod Search
@@ -38,6 +44,7 @@ pub mod Sizes
 pub mod Sorted
 pub mod Soundness
 pub mod Stepping
+pub mod ValidFits
 pub mod Walks
 pub mod Writes
 pub mod Written

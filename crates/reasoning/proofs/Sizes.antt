@@ -90,6 +90,11 @@ unfolding eachOf
 each-length f g [] h = refl
 each-length f g (a ∷ l) h = omega (arith, length-append (f a) (eachOf f l), length-append (g a) (eachOf g l), h a, each-length f g l h)
 
+-- numbers take at most two bytes each
+pub numbers-bytes : (ns : List ℕ) → bytesIn ns ≤ 2 * length ns
+numbers-bytes [] = omega (arith, bytes-none)
+numbers-bytes (n ∷ ns) = omega (arith, bytes-more n ns, number-most n, numbers-bytes ns)
+
 module _ {parent : ℕ → ℕ} {rules : List Rule} {count : ℕ} {R : ℕ → ℕ → ℕ} {goals : List ℕ} {start : Start} (desc : Descending parent)
     (within : RulesIn count rules) (few : count ≤ 64) (shallow : (x : ℕ) → x < count → depthOf parent x ≤ 8)
     (words : ReachWords parent rules count R) (begins : Begins parent count goals start) where
@@ -253,10 +258,6 @@ module _ {parent : ℕ → ℕ} {rules : List Rule} {count : ℕ} {R : ℕ → �
 
   -- ---- the bytes
 
-  kids-bytes : (ks : List ℕ) → bytesIn ks ≤ 2 * length ks
-  kids-bytes [] = omega (arith, bytes-none)
-  kids-bytes (k ∷ ks) = omega (arith, bytes-more k ks, number-most k, kids-bytes ks)
-
   parts-bytes : (es : List Entry) → ((e : Entry) → List·Memᴰ e es → SmallEntry e) → bytesIn (partNumbers es) ≤ 130 * length es
   unfolding partNumbers
   parts-bytes [] h = omega (arith, bytes-none)
@@ -271,7 +272,7 @@ module _ {parent : ℕ → ℕ} {rules : List Rule} {count : ℕ} {R : ℕ → �
         bytes-append (e .kids) (partNumbers es),
         number-short (e .path) (omega (arith, s .path)),
         number-short (length (e .kids)) (omega (arith, s .kids)),
-        kids-bytes (e .kids),
+        numbers-bytes (e .kids),
         parts-bytes es (λ x m. h x (List·Memᴰ·tail m)),
       )
 

@@ -4,7 +4,7 @@ use mathlib.Core.Path.{_≡_}
 use mathlib.Core.Logic.{_↔_, _⊎_}
 use mathlib.Core.Bool.{Bool, true, false, _&&_}
 use mathlib.Core.List.{List}
-use lib.Dec.{eqb, leb, ltb}
+use lib.Dec.{leb, ltb}
 use lib.ListN.{length, take}
 use Rattle.files.specs.declared.rules.Rules.{Rules}
 use Rattle.files.specs.declared.write.Written.{Written}
@@ -21,9 +21,9 @@ use Rattle.documents.specs.PartList.{Entry, documentFile, StandsFor}
 use Rattle.reasoning.specs.declared.consistency.Consistency.{Consistency}
 use Rattle.reasoning.specs.declared.question.Reply.{Reply}
 use Rattle.reasoning.specs.Reachable.{reachable}
-use Rattle.reasoning.specs.Evidence.{impliesb, yesb, consistentb, evidenceNumbers, inconsistentNumbers, Shows, ShowsInconsistent}
+use Rattle.reasoning.specs.Evidence.{yesb, consistentb, evidenceNumbers, inconsistentNumbers, Shows, ShowsInconsistent}
 use Rattle.reasoning.specs.Follows.{Witnesses, Consistent}
-use Rattle.reasoning.specs.Handed.{Start, startImplication, startAbsence, startConsistency, handedNumbers}
+use Rattle.reasoning.specs.Handed.{Start, startConsistency, startNo, handedNumbers}
 
 -- the parents, the rules and the required paths of a table, and the set of the required paths with the root
 abbrev pub parentsOf : Rules → ℕ → ℕ
@@ -76,15 +76,8 @@ unfoldable pub askable : Rules → (kind p q : ℕ) → Bool
 askable t kind p q = leb 1 kind && (leb kind 3 && (ltb p (t .paths) && ltb q (t .paths)))
 
 -- what the counter-document of a question begins with; a co-occurrence's no shows the first failing direction
-unfoldable pub counterStart : Rules → (kind p q : ℕ) → Start
-counterStart t kind p q =
-    elim (eqb kind 1) [
-      | true ↦ startImplication p
-      | false ↦ elim (eqb kind 2) [
-        | true ↦ startAbsence (parentsOf t) p q
-        | false ↦ elim (impliesb (parentsOf t) (ruleListOf t) (t .paths) p q) [ true ↦ startImplication q | false ↦ startImplication p ]
-      ]
-    ]
+abbrev pub counterStart : Rules → (kind p q : ℕ) → Start
+counterStart t = startNo (parentsOf t) (ruleListOf t) (t .paths)
 
 -- what a question answers, and the buffer: refusal 12, then 13, 20 last
 unfoldable pub askAnswer : Rules → (kind p q : ℕ) → List ℕ → Answered Reply

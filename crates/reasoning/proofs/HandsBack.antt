@@ -1,0 +1,52 @@
+-- The document that a call hands back over a valid table: its bytes are read back as a list of parts that stands for a tree, and
+-- they are at most 65,536; the bytes of evidence are at most 784.
+use Prim.Native.Nat.{ℕ, _+_, _*_, _≤_, _<_}
+use mathlib.Core.Path.{_≡_}
+use mathlib.Core.List.{List}
+use native.Mathlib.Omega.{arith}
+use lib.ListN.{length}
+use Rattle.files.specs.declared.rules.Rules.{Rules}
+use Rattle.files.specs.Number.{bytesOfAll}
+use Rattle.files.specs.Rules.{ValidTable}
+use Rattle.files.proofs.FileSizes.{bytesIn}
+use Rattle.documents.specs.Tree.{Forest}
+use Rattle.documents.specs.PartList.{StandsFor}
+use Rattle.documents.proofs.ValidLists.{valid-read}
+use Rattle.documents.proofs.CheckingJoins.{few-paths, below-64}
+use Rattle.reasoning.specs.Calls.{parentsOf, ruleListOf, documentBytes, HandsBack}
+use Rattle.reasoning.specs.Evidence.{Bounded}
+use Rattle.reasoning.specs.Handed.{Start, handedEntries, handedNumbers}
+use Rattle.reasoning.specs.Reachable.{reachable}
+use Rattle.reasoning.proofs.HandedRows.{Begins}
+use Rattle.reasoning.proofs.HandedDocuments.{document-tree, document-bytes, document-part-list}
+use Rattle.reasoning.proofs.Sizes.{numbers-bytes}
+use Rattle.reasoning.proofs.ValidFits.{table-fits, table-shallow}
+
+module _ (t : Rules) (v : ValidTable t) {goals : List ℕ} {start : Start} (begins : Begins (parentsOf t) (t .paths) goals start) where
+  -- the bytes are read back as parts that stand for a tree, of which holds what holds of every tree that they stand for
+  pub hands-back : {Good : Forest → Type 0}
+      → ((d : Forest)
+      → StandsFor (handedEntries (parentsOf t) (t .paths) (reachable (parentsOf t) (ruleListOf t) (t .paths)) start) d → Good d)
+      → HandsBack t (documentBytes t start) Good
+  unfolding documentBytes handedNumbers
+  hands-back good =
+      let es = handedEntries (parentsOf t) (t .paths) (reachable (parentsOf t) (ruleListOf t) (t .paths)) start in
+      let d = document-tree (table-fits t v) (table-shallow t v) begins in
+      record {
+        parts = es;
+        read = valid-read (parentsOf t) (t .paths) (v .some) (few-paths t v) (below-64 t v) es
+            (document-part-list (table-fits t v) (table-shallow t v) begins);
+        tree = d .0;
+        stands = d .1;
+        good = good (d .0) (d .1);
+      }
+
+  -- a document takes at most 65,536 bytes
+  pub document-room : length (documentBytes t start) ≤ 65536
+  unfolding documentBytes
+  document-room = document-bytes (table-fits t v) (table-shallow t v) begins
+
+-- n numbers of evidence take at most 2 n bytes
+pub bounded-bytes : {n : ℕ} {numbers : List ℕ} → Bounded n numbers → length (bytesOfAll numbers) ≤ 2 * n
+unfolding bytesIn
+bounded-bytes {n} {numbers} b = omega (arith, b .few, numbers-bytes numbers)

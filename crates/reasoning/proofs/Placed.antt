@@ -1,0 +1,33 @@
+-- Bytes put into a lent buffer, in the words of an answer: they fill its start, or they are longer than it and it stays as it was.
+use Prim.Native.Nat.{ℕ, _≤_, _<_}
+use mathlib.Core.Path.{_≡_, refl, sym, ap, subst₂, _∙_}
+use mathlib.Core.Bool.{Bool, true, false}
+use mathlib.Core.List.{List}
+use lib.Dec.{leb}
+use lib.ListN.{length, take, drop}
+use lib.Seq.{take-append-seam}
+use borrow.Author.Tests.{leb-true, leb-false}
+use Rattle.files.specs.Writing.{put}
+use Rattle.reasoning.specs.Calls.{Answered, answerOf, answered}
+
+-- what the answer and the buffer are once bytes were put
+pub data Placed {A : Type 0} (done : ℕ → A) (refuse : ℕ → ℕ → A) (bytes out : List ℕ) (r : A) (after : List ℕ) : Type 0 where
+  fills : length bytes ≤ length out → r ≡ done (length bytes) → take (length bytes) after ≡ bytes → Placed done refuse bytes out r after
+  tooLong : length out < length bytes → r ≡ refuse 20 0 → after ≡ out → Placed done refuse bytes out r after
+
+module _ {A : Type 0} (done : ℕ → A) (refuse : ℕ → ℕ → A) (bytes out : List ℕ) where
+  placed : Placed done refuse bytes out (answered done refuse (put bytes out) .answer) (answered done refuse (put bytes out) .buffer)
+  unfolding answered answerOf put
+  placed = pick (leb (length bytes) (length out)) refl
+    where
+      pick : (b : Bool) → leb (length bytes) (length out) ≡ b
+          → Placed done refuse bytes out (answered done refuse (put bytes out) .answer) (answered done refuse (put bytes out) .buffer)
+      pick true e = rw e (fills (leb-true (length bytes) (length out) e) refl (take-append-seam bytes (drop (length bytes) out)))
+      pick false e = rw e (tooLong (leb-false (length bytes) (length out) e) refl refl)
+
+  -- an answer and a buffer that are those of bytes put
+  pub placed-at : {x : Answered A} {r : A} {after : List ℕ} → x ≡ answered done refuse (put bytes out) → r ≡ x .answer → after ≡ x .buffer
+      → Placed done refuse bytes out r after
+  placed-at e f g =
+      subst₂ (Placed done refuse bytes out) (sym (f ∙ ap (λ (y : Answered A). y .answer) e))
+      (sym (g ∙ ap (λ (y : Answered A). y .buffer) e)) placed
