@@ -11,4 +11,5 @@ pub mod Reachable
 pub mod Required
 pub mod Search
 pub mod Walk
+pub mod Writer
 pub mod Written
