@@ -19,10 +19,10 @@ use Rattle.files.proofs.ValidTables.{valid-passing, passing-valid}
 
 -- ---- bytes of numbers
 
-number-short : (n : ℕ) → n < 128 → length (bytesOf n) ≡ 1
+pub number-short : (n : ℕ) → n < 128 → length (bytesOf n) ≡ 1
 number-short n h = ap length (bytes-short n h)
 
-number-most : (n : ℕ) → length (bytesOf n) ≤ 2
+pub number-most : (n : ℕ) → length (bytesOf n) ≤ 2
 number-most n = by (decLt n 128)
   where
     by : Dec (n < 128) → length (bytesOf n) ≤ 2
@@ -30,18 +30,18 @@ number-most n = by (decLt n 128)
     by (no h) = omega (arith, ap length (bytes-long n (omega arith)))
 
 -- how many bytes numbers take
-bytesIn : List ℕ → ℕ
+unfoldable pub bytesIn : List ℕ → ℕ
 bytesIn ns = length (bytesOfAll ns)
 
-bytes-none : bytesIn [] ≡ 0
+pub bytes-none : bytesIn [] ≡ 0
 unfolding bytesIn bytesOfAll
 bytes-none = refl
 
-bytes-more : (n : ℕ) (ns : List ℕ) → bytesIn (n ∷ ns) ≡ length (bytesOf n) + bytesIn ns
+pub bytes-more : (n : ℕ) (ns : List ℕ) → bytesIn (n ∷ ns) ≡ length (bytesOf n) + bytesIn ns
 unfolding bytesIn bytesOfAll
 bytes-more n ns = length-append (bytesOf n) (bytesOfAll ns)
 
-bytes-append : (ns ms : List ℕ) → bytesIn (ns ++ ms) ≡ bytesIn ns + bytesIn ms
+pub bytes-append : (ns ms : List ℕ) → bytesIn (ns ++ ms) ≡ bytesIn ns + bytesIn ms
 bytes-append [] ms = omega (arith, bytes-none)
 bytes-append (n ∷ ns) ms = omega (arith, bytes-more n (ns ++ ms), bytes-more n ns, bytes-append ns ms)
 

@@ -1,56 +1,28 @@
 -- The computed document is the one that 01 writes down.
-use Prim.Native.Nat.{ℕ, zero, suc, _^_, _≤_, _<_}
+use Prim.Native.Nat.{ℕ, _^_, _≤_, _<_}
 use mathlib.Core.Path.{_≡_, refl, sym, ap, subst, _∙_}
-use mathlib.Core.Logic.{_⊎_, inl, inr, _↔_}
-use mathlib.Core.Bool.{Bool, true, false, not, _&&_, false≢true, true≢false}
-use mathlib.Core.List.{List, [], _∷_, _++_, map, List·Memᴰ, List·Memᴰ·head, List·Memᴰ·eq-of-singleton}
-use native.Mathlib.Decide.{ℕ-discrete}
+use mathlib.Core.Logic.{_↔_}
+use mathlib.Core.Bool.{Bool, true, false, not, _&&_, false≢true}
+use mathlib.Core.List.{List, [], _∷_, List·Memᴰ, List·Memᴰ·head}
 use native.Mathlib.Omega.{arith}
 use lib.Dec.{eqb}
-use lib.ListN.{getD}
 use borrow.Author.Tests.{eqb-true, eqb-false}
 use Rattle.files.specs.Table.{Rule}
 use Rattle.files.specs.Sets.{Has, hasb, common, members}
 use Rattle.files.proofs.SetBits.{hasb-true, hasb-has, has-common, common-lt}
 use Rattle.files.proofs.SetMembers.{mem-members, members-ascending}
 use Rattle.documents.specs.Paths.{Below, StrictlyBelow, Descending, towards, depthOf}
-use Rattle.documents.specs.Parts.{Named, given, further}
-use Rattle.documents.specs.PartList.{Entry}
-use Rattle.documents.proofs.Paths.{
-  below-root,
-  below-le,
-  strictly-lt,
-  parent-strictly,
-  towards-below,
-  towards-unique,
-  depth-root,
-  depth-child,
-  depth-below,
-}
-use Rattle.reasoning.specs.Parts.{Part, pathOf, RulesIn, meetAll, childFor, childForAll, kidsOf, partZero}
+use Rattle.documents.specs.Parts.{further}
+use Rattle.documents.proofs.Paths.{below-le, strictly-lt, parent-strictly, towards-below, towards-unique, depth-child}
+use Rattle.reasoning.specs.Parts.{Part, pathOf, RulesIn, meetAll, childFor, kidsOf, partZero}
 use Rattle.reasoning.specs.Reachable.{subtree}
-use Rattle.reasoning.specs.Order.{
-  NumberedIn,
-  Sorted,
-  Matches,
-  Several,
-  SamePart,
-  Precedes,
-  byDepth,
-  byPath,
-  bySeveral,
-  byGoal,
-  Standing,
-  LaysDown,
-  WritesDocument,
-}
+use Rattle.reasoning.specs.Order.{NumberedIn, Sorted, Matches, SamePart, Precedes, LaysDown, WritesDocument}
 use Rattle.reasoning.specs.Handed.{
   Start,
   ReachWords,
   wordReach,
   eachOf,
   onlyIf,
-  severalb,
   oneKids,
   chain,
   allKids,
@@ -64,46 +36,24 @@ use Rattle.reasoning.specs.Handed.{
   entriesOn,
   handedEntries,
 }
-use Rattle.reasoning.proofs.Reachable.{subtree-iff, subtree-small}
+use Rattle.reasoning.proofs.Reachable.{subtree-iff}
 use Rattle.reasoning.proofs.HandedKids.{KidBy, all, alone}
-use Rattle.reasoning.proofs.HandedRows.{
-  Begins,
-  onePart,
-  allPart,
-  row,
-  row-small,
-  KidGoal,
-  ofAll,
-  ofOne,
-  all-kids-small,
-  one-kids-small,
-}
+use Rattle.reasoning.proofs.HandedRows.{Begins, onePart, allPart, row, KidGoal, ofAll, ofOne, all-kids-small, one-kids-small}
 use Rattle.reasoning.proofs.HandedNamed.{
-  Found,
-  many,
   one,
-  HowMany,
-  several,
-  unique,
-  how-many,
   chain-iff,
   NamedPart,
   goals-of,
   kid-may-stand,
-  chain-in-table,
   all-named,
   kids-of-all,
   kids-of-one,
   next-row,
   row-named,
-  named-found,
 }
 use Rattle.reasoning.proofs.HandedOrder.{
-  Earlier,
   beside,
   child-mem,
-  order-sorted,
-  order-mem,
   order-in-table,
   block,
   InBlock,
@@ -119,7 +69,6 @@ use Rattle.reasoning.proofs.Order.{precedes-asym}
 use Rattle.reasoning.proofs.Sorted.{
   numbered-member,
   member-numbered,
-  sorted-before,
   sorted-less,
   each-from,
   from-each,
@@ -400,14 +349,19 @@ module _ {parent : ℕ → ℕ} {rules : List Rule} {count : ℕ} {R : ℕ → �
           lays-down c false (oneKids parent count R c g) (one-kids-small parent count R start c g) (λ x k. ofOne g h k)
           (onePart c g) refl (one-kids-iff (row-named desc within few words begins l h))))
 
+  -- the entries lay down the parts, one by one
+  pub entries-lay : Matches (LaysDown parent count (wordReach R) (handedParts parent count R goals start))
+      (handedParts parent count R goals start) (handedEntries parent count R start)
+  unfolding handedEntries
+  entries-lay = matches-each _ _ (pathOrder parent count) (λ c m. entries-match c (order-in-table parent count few c m))
+
   -- the computed document is the document that begins with part 0, written down
   pub handed-writes : WritesDocument parent count (wordReach R) (partZero goals) (handedEntries parent count R start)
-  unfolding handedEntries
   handed-writes = record {
     parts = (handedParts parent count R goals start);
     begins = parts-begin desc within few shallow words begins;
     named = parts-named desc within few shallow words begins;
     every = λ a n. let r = parts-every desc within few shallow words begins a n in (r .0, record { part = a; number = r .1; same = same-part a });
     ordered = parts-ordered desc within few shallow words begins;
-    entries = matches-each _ _ (pathOrder parent count) (λ c m. entries-match c (order-in-table parent count few c m));
+    entries = entries-lay;
   }

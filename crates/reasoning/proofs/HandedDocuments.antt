@@ -1,33 +1,34 @@
 -- The documents handed back for the three answers: what each begins with, that it is the one written down, and what its tree shows.
 use Prim.Native.Nat.{ℕ, _^_, _<_, _≤_}
 use mathlib.Core.Path.{_≡_, refl, sym, ap, subst, _∙_}
-use mathlib.Core.Logic.{_⊎_, inl, inr, _↔_, Iff·trans}
+use mathlib.Core.Logic.{_⊎_, inl, inr, Iff·trans}
 use mathlib.Core.Bool.{Bool, true, false}
-use mathlib.Core.List.{List, [], _∷_, List·Memᴰ, List·Memᴰ·head, List·Memᴰ·tail, List·Memᴰ·cases-cons, List·Memᴰ·eq-of-singleton}
+use mathlib.Core.List.{List, [], _∷_, List·Memᴰ, List·Memᴰ·head, List·Memᴰ·tail, List·Memᴰ·cases-cons}
 use native.Mathlib.Omega.{arith}
 use lib.Dec.{T, eqb, lit<}
+use lib.ListN.{length}
 use borrow.Author.Tests.{eqb-true, eqb-false}
 use Rattle.files.specs.Table.{Rule}
+use Rattle.files.specs.Number.{bytesOfAll}
 use Rattle.files.specs.Sets.{Has, withPath}
 use Rattle.files.proofs.SetBits.{has-with, with-lt}
-use Rattle.documents.specs.Paths.{Below, Descending, contextOf, depthOf}
+use Rattle.documents.specs.Paths.{Descending, contextOf, depthOf}
 use Rattle.documents.specs.Tree.{Forest}
-use Rattle.documents.specs.PartList.{Entry, StandsFor}
+use Rattle.documents.specs.PartList.{Entry, StandsFor, ValidParts}
 use Rattle.documents.proofs.Paths.{below-le, below-zero, contextOf-context, contextOf-self}
-use Rattle.reasoning.specs.Walk.{Reach, Dead, Pair}
 use Rattle.reasoning.specs.Required.{Needed, root, listed}
-use Rattle.reasoning.specs.Follows.{BreaksImplication, BreaksAbsence, Witnesses, Consistent}
-use Rattle.reasoning.specs.Parts.{Part, Decides, meetAll, bothGoals, partZero, implicationPart, absencePart, consistencyPart}
+use Rattle.reasoning.specs.Follows.{BreaksImplication, BreaksAbsence, Witnesses}
+use Rattle.reasoning.specs.Parts.{meetAll, bothGoals, partZero}
 use Rattle.reasoning.specs.Reachable.{Fits, reachable, reachb}
 use Rattle.reasoning.specs.Decide.{askedIn}
 use Rattle.reasoning.specs.Evidence.{impliesb, excludesb, consistentb}
 use Rattle.reasoning.specs.Order.{Only, WritesDocument}
-use Rattle.reasoning.specs.Handed.{Start, ReachWords, wordReach, startImplication, startAbsence, startConsistency, handedEntries}
+use Rattle.reasoning.specs.Handed.{Start, ReachWords, startImplication, startAbsence, startConsistency, handedEntries, handedNumbers}
 use Rattle.reasoning.proofs.Reachable.{reachable-iff, reachable-small}
 use Rattle.reasoning.proofs.RootPair.{askedIn-iff}
 use Rattle.reasoning.proofs.Writes.{implies-iff, excludes-iff}
 use Rattle.reasoning.proofs.Answers.{reach-decides, consistent-some}
-use Rattle.reasoning.proofs.Kids.{Goals, meet-above}
+use Rattle.reasoning.proofs.Kids.{meet-above}
 use Rattle.reasoning.proofs.Completeness.{tree-exists}
 use Rattle.reasoning.proofs.HandedBack.{
   both-cases,
@@ -42,10 +43,12 @@ use Rattle.reasoning.proofs.HandedBack.{
 }
 use Rattle.reasoning.proofs.Equivalences.{consistent-exactly}
 use Rattle.reasoning.proofs.HandedWords.{has-none}
-use Rattle.reasoning.proofs.HandedKids.{GoalWord, meet-one}
+use Rattle.reasoning.proofs.HandedKids.{meet-one}
 use Rattle.reasoning.proofs.HandedRows.{Begins, one-word}
+use Rattle.reasoning.proofs.Order.{document-unique}
 use Rattle.reasoning.proofs.Handed.{handed-writes}
-use Rattle.reasoning.proofs.HandedTree.{document-stands, stands-breaks-implication, stands-breaks-absence, stands-witnesses}
+use Rattle.reasoning.proofs.Sizes.{parts-few, bytes-few, numbers-few}
+use Rattle.reasoning.proofs.HandedTree.{document-valid, document-stands, stands-breaks-implication, stands-breaks-absence, stands-witnesses}
 
 module _ {parent : ℕ → ℕ} {count : ℕ} (desc : Descending parent) (few : count ≤ 64) where
   -- what the document for an implication's no begins with
@@ -148,6 +151,31 @@ module _ {parent : ℕ → ℕ} {rules : List Rule} {count : ℕ} (fits : Fits p
         → (d : Forest) × StandsFor (handedEntries parent count (reachable parent rules count) start) d
     document-tree begins =
         document-stands (fits .descending) (fits .rulesIn) (reach-decides fits) (begins .goalsIn) (begins .plain) (document-writes begins)
+
+    module _ {goals : List ℕ} {start : Start} (begins : Begins parent count goals start) where
+      -- no other document is written down
+      pub document-only : {es : List Entry} → WritesDocument parent count (reachb parent rules count) (partZero goals) es
+          → es ≡ handedEntries parent count (reachable parent rules count) start
+      document-only w =
+          document-unique (fits .descending) (fits .rulesIn) (reach-decides fits) (begins .goalsIn) (begins .plain) w (document-writes begins)
+
+      -- at most 449 parts
+      pub document-parts : length (handedEntries parent count (reachable parent rules count) start) ≤ 449
+      document-parts = parts-few (fits .descending) (fits .rulesIn) (fits .few) shallow reachable-words begins
+
+      -- at most 65,536 bytes
+      pub document-bytes : length (bytesOfAll (handedNumbers parent count (reachable parent rules count) start)) ≤ 65536
+      document-bytes = bytes-few (fits .descending) (fits .rulesIn) (fits .few) shallow reachable-words begins
+
+      -- each number at most 449
+      pub document-numbers : (n : ℕ) → List·Memᴰ n (handedNumbers parent count (reachable parent rules count) start) → n ≤ 449
+      document-numbers = numbers-few (fits .descending) (fits .rulesIn) (fits .few) shallow reachable-words begins
+
+      -- a part list that breaks no condition of 01
+      pub document-part-list : ValidParts parent count (handedEntries parent count (reachable parent rules count) start)
+      document-part-list =
+          document-valid (fits .descending) (fits .rulesIn) (reach-decides fits) (begins .goalsIn) (begins .plain) (document-writes begins)
+          (omega (arith, document-parts))
 
     -- an implication answered no: the document obeys the rules and breaks the implication
     pub implication-document : (p q : ℕ) → p < count → q < count → (T (impliesb parent rules count p q) → ⊥) → (d : Forest)

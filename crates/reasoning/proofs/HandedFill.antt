@@ -2,7 +2,7 @@
 use Prim.Native.Nat.{ℕ, zero, suc, _^_, _≤_, _<_}
 use mathlib.Core.Path.{_≡_, refl, sym, ap, subst, _∙_}
 use mathlib.Core.Logic.{_⊎_, inl, inr, _↔_}
-use mathlib.Core.Bool.{Bool, true, false, not, false≢true}
+use mathlib.Core.Bool.{Bool, true, false, false≢true}
 use mathlib.Core.List.{
   List,
   [],
@@ -10,7 +10,6 @@ use mathlib.Core.List.{
   _++_,
   List·Memᴰ,
   List·Memᴰ·head,
-  List·Memᴰ·tail,
   List·Memᴰ·eq-of-singleton,
   List·Memᴰ·append-cases,
   Memᴰ·append-left,
@@ -20,9 +19,8 @@ use native.Mathlib.Omega.{arith}
 use lib.Dec.{T, eqb, lit<, T-not, not-T}
 use borrow.Author.Tests.{eqb-true, eqb-false}
 use Rattle.files.specs.Table.{Rule}
-use Rattle.files.specs.Sets.{bit, Has, hasb, withPath, withoutPath, difference}
+use Rattle.files.specs.Sets.{bit, Has, withPath, withoutPath, difference}
 use Rattle.files.proofs.SetBits.{
-  bit-cases,
   not-has,
   bit-absent,
   has-with,
@@ -34,13 +32,11 @@ use Rattle.files.proofs.SetBits.{
   difference-le,
 }
 use Rattle.files.proofs.SetMembers.{size-le}
-use Rattle.documents.specs.Paths.{Below, Descending, towards}
+use Rattle.documents.specs.Paths.{Descending, towards}
 use Rattle.documents.proofs.Paths.{towards-below}
-use Rattle.reasoning.specs.Walk.{Reach}
 use Rattle.reasoning.specs.Parts.{Part, ReachAny, RulesIn, someb, meetAll, childFor, childForAll, ownKids, coversb, lacksb, fill, kidsOf}
 use Rattle.reasoning.specs.Handed.{ReachWords, wordReach, highest, reachAll, coverEach, fillWord, kidWord}
 use Rattle.reasoning.proofs.Walks.{reach-refl, reach-end}
-use Rattle.reasoning.proofs.Reachable.{T-hasb}
 use Rattle.reasoning.proofs.Fill.{Some, someb-some, some-someb}
 use Rattle.reasoning.proofs.Kids.{Goals, any-small}
 use Rattle.reasoning.proofs.HandedWords.{has-none, top-absent, members-under, highest-is, gather-small, gather-iff, Given}

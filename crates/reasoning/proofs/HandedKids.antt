@@ -1,5 +1,5 @@
 -- The word of a part's children says which children 01 gives it.
-use Prim.Native.Nat.{ℕ, zero, suc, _^_, _≤_, _<_}
+use Prim.Native.Nat.{ℕ, _^_, _<_}
 use mathlib.Core.Path.{_≡_, refl, sym, ap, subst, _∙_}
 use mathlib.Core.Logic.{_⊎_, inl, inr, _↔_}
 use mathlib.Core.Bool.{Bool, true, false, false≢true}
@@ -7,59 +7,24 @@ use mathlib.Core.List.{
   List,
   [],
   _∷_,
-  _++_,
   List·Memᴰ,
   List·Memᴰ·head,
   List·Memᴰ·tail,
   List·Memᴰ·not-nil,
   List·Memᴰ·cases-cons,
   List·Memᴰ·eq-of-singleton,
-  List·Memᴰ·append-cases,
-  Memᴰ·append-left,
-  Memᴰ·append-right,
 }
-use native.Mathlib.Decide.{ℕ-discrete}
-use native.Mathlib.Omega.{arith}
-use lib.Dec.{T, eqb, lit<}
+use lib.Dec.{T, eqb}
 use borrow.Author.Tests.{eqb-true, eqb-false}
-use Rattle.files.specs.Table.{Rule}
-use Rattle.files.specs.Sets.{bit, Has, hasb, withPath, withoutPath, difference}
-use Rattle.files.proofs.SetBits.{
-  not-has,
-  bit-absent,
-  bit-of-zero,
-  has-with,
-  has-without,
-  has-difference,
-  with-lt,
-  without-lt,
-  difference-lt,
-  difference-le,
-}
+use Rattle.files.specs.Sets.{Has, hasb, withoutPath}
+use Rattle.files.proofs.SetBits.{has-without}
 use Rattle.files.proofs.SetMembers.{size-le}
-use Rattle.documents.specs.Paths.{Below, Descending, towards}
-use Rattle.documents.proofs.Paths.{towards-below}
-use Rattle.reasoning.specs.Parts.{
-  Part,
-  RulesIn,
-  Decides,
-  someb,
-  meetAll,
-  childFor,
-  childForAll,
-  ownEach,
-  ownKids,
-  coversb,
-  lacksb,
-  fill,
-  kidsOf,
-}
-use Rattle.reasoning.specs.Handed.{ReachWords, wordReach, highest, gather, reachAll, coverEach, fillWord, kidWord}
-use Rattle.reasoning.proofs.Walks.{reach-refl, reach-end}
+use Rattle.documents.specs.Paths.{towards}
+use Rattle.reasoning.specs.Parts.{Part, someb, meetAll, childFor, childForAll, ownEach, ownKids, coversb}
+use Rattle.reasoning.specs.Handed.{wordReach, reachAll}
 use Rattle.reasoning.proofs.Reachable.{T-hasb}
 use Rattle.reasoning.proofs.Fill.{someb-some, some-someb}
-use Rattle.reasoning.proofs.Kids.{Goals, any-small}
-use Rattle.reasoning.proofs.HandedWords.{has-none, top-absent, members-under, highest-is, gather-small, gather-iff, Given}
+use Rattle.reasoning.proofs.HandedWords.{has-none, gather-iff, Given}
 
 -- a word is the set of the goals of a list
 pub record GoalWord (goals : List ℕ) (w : ℕ) : Type 0 where

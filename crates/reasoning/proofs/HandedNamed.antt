@@ -1,26 +1,26 @@
 -- The parts of a document are those that the words name: with all goals on the chain, with one goal as the rows say.
-use Prim.Native.Nat.{ℕ, zero, suc, _+_, _^_, _≤_, _<_}
+use Prim.Native.Nat.{ℕ, zero, suc, _^_, _≤_, _<_}
 use mathlib.Core.Path.{_≡_, refl, sym, ap, subst, _∙_}
 use mathlib.Core.Logic.{_⊎_, inl, inr, _↔_}
 use mathlib.Core.Bool.{Bool, true, false, not, false≢true, true≢false}
 use mathlib.Core.List.{List, [], _∷_, List·Memᴰ, List·Memᴰ·head, List·Memᴰ·eq-of-singleton}
 use native.Mathlib.Decide.{ℕ-discrete}
 use native.Mathlib.Omega.{arith}
-use lib.Dec.{T, eqb, lit<}
+use lib.Dec.{eqb, lit<}
 use borrow.Author.Tests.{eqb-true, eqb-false}
 use Rattle.files.specs.Table.{Rule}
-use Rattle.files.specs.Sets.{Has, hasb, withPath, common, lowest, withoutLowest}
+use Rattle.files.specs.Sets.{Has, lowest, withoutLowest}
 use Rattle.files.proofs.SetBits.{has-common}
 use Rattle.files.proofs.SetLowest.{has-lowest, has-without-lowest, without-lowest-lt}
 use Rattle.documents.specs.Paths.{Below, Descending, towards}
 use Rattle.documents.specs.Parts.{Named, given, further, MayStand}
 use Rattle.documents.proofs.Paths.{below-root, below-le, towards-below, towards-unique, parent-strictly, parent-le, parent-fuel}
-use Rattle.reasoning.specs.Parts.{Part, pathOf, RulesIn, Decides, meetAll, childFor, childForAll, kidsOf, partZero}
+use Rattle.reasoning.specs.Parts.{Part, pathOf, RulesIn, meetAll, childFor, childForAll, kidsOf, partZero}
 use Rattle.reasoning.specs.Reachable.{subtree}
 use Rattle.reasoning.specs.Order.{Several, Only}
-use Rattle.reasoning.specs.Handed.{Start, ReachWords, wordReach, severalb, oneKids, chain, allKids, kidsAt, rootGoals, climbAll}
+use Rattle.reasoning.specs.Handed.{Start, ReachWords, wordReach, severalb, oneKids, chain, allKids, kidsAt, rootGoals}
 use Rattle.reasoning.proofs.Reachable.{subtree-iff}
-use Rattle.reasoning.proofs.Kids.{Goals, kids-are, kid-stands, meet-above, meet-longest}
+use Rattle.reasoning.proofs.Kids.{Goals, kids-are, kid-stands, meet-above}
 use Rattle.reasoning.proofs.Completeness.{named-goals, chain-named}
 use Rattle.reasoning.proofs.HandedWords.{has-none, climb-iff, climb-small}
 use Rattle.reasoning.proofs.HandedKids.{KidBy, all, alone, Mode, onWay, meeting, single}
@@ -32,7 +32,6 @@ use Rattle.reasoning.proofs.HandedRows.{
   one-word,
   words-decide,
   row,
-  rowNext,
   row-root,
   row-next,
   row-small,

@@ -11,8 +11,8 @@ use lib.Dec.{T, eqb, ltb, ltb→lt, lt→ltb, eqb→eq, eqb-refl}
 use lib.Ieee.Fits.{and-i, and-l, and-r}
 use lib.ListN.{length, getD, length-append, length-map}
 use borrow.Author.Tests.{eqb-true, eqb-false}
-use Rattle.files.specs.Sets.{bit, Has, hasb, sizeBelow, size, membersFrom, members}
-use Rattle.files.proofs.SetBits.{bit-cases, hasb-true, hasb-false, hasb-has, hasb-absent, not-has, has-under}
+use Rattle.files.specs.Sets.{bit, Has, hasb, sizeBelow, membersFrom, members}
+use Rattle.files.proofs.SetBits.{bit-cases, hasb-has, hasb-absent, has-under}
 use Rattle.files.proofs.SetMembers.{
   size-below-zero,
   size-below-suc,
@@ -27,7 +27,7 @@ use Rattle.documents.specs.Paths.{Descending, depthOf}
 use Rattle.documents.proofs.Paths.{below-root, depth-root, depth-below}
 use Rattle.reasoning.specs.Parts.{Part}
 use Rattle.reasoning.specs.Order.{NumberedIn, Sorted, Several, Only, Precedes, byDepth, byPath, bySeveral, byGoal}
-use Rattle.reasoning.specs.Handed.{eachOf, onlyIf, pathsWhere, layer, layersFrom, pathOrder, childPaths, partsOn, placeOf, numberOf}
+use Rattle.reasoning.specs.Handed.{eachOf, onlyIf, layer, layersFrom, pathOrder, childPaths, partsOn, placeOf, numberOf}
 use Rattle.reasoning.proofs.HandedWords.{where-iff, where-small}
 use Rattle.reasoning.proofs.HandedRows.{onePart, allPart}
 use Rattle.reasoning.proofs.Sorted.{
@@ -47,7 +47,8 @@ pub data Earlier (parent : ℕ → ℕ) (x y : ℕ) : Type 0 where
   beside : depthOf parent x ≡ depthOf parent y → x < y → Earlier parent x y
 
 module _ (parent : ℕ → ℕ) (count : ℕ) (few : count ≤ 64) where
-  layer-mem : (d x : ℕ) → List·Memᴰ x (members (layer parent count d)) ↔ ((x < count) × (depthOf parent x ≡ d))
+  -- the paths of a depth
+  pub layer-mem : (d x : ℕ) → List·Memᴰ x (members (layer parent count d)) ↔ ((x < count) × (depthOf parent x ≡ d))
   unfolding layer
   layer-mem d x =
       let m = mem-members (layer parent count d) x (where-small (λ y. eqb (depthOf parent y) d) count) in

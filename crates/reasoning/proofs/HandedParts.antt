@@ -1,83 +1,21 @@
 -- The parts of the computed document: all that part 0 names, in the order of parts, part 0 first.
-use Prim.Native.Nat.{ℕ, zero, suc, _^_, _≤_, _<_}
-use mathlib.Core.Path.{_≡_, refl, sym, ap, subst, _∙_}
-use mathlib.Core.Logic.{_⊎_, inl, inr, _↔_}
-use mathlib.Core.Bool.{Bool, true, false, not, _&&_, false≢true, true≢false}
-use mathlib.Core.List.{List, [], _∷_, _++_, map, List·Memᴰ, List·Memᴰ·head, List·Memᴰ·eq-of-singleton}
+use Prim.Native.Nat.{ℕ, _^_, _≤_, _<_}
+use mathlib.Core.Path.{_≡_, refl, sym, subst, _∙_}
+use mathlib.Core.Bool.{true, true≢false}
+use mathlib.Core.List.{List, List·Memᴰ, List·Memᴰ·head, List·Memᴰ·eq-of-singleton}
 use native.Mathlib.Decide.{ℕ-discrete}
 use native.Mathlib.Omega.{arith}
-use lib.Dec.{eqb}
-use lib.ListN.{getD}
-use borrow.Author.Tests.{eqb-true, eqb-false}
 use Rattle.files.specs.Table.{Rule}
-use Rattle.files.specs.Sets.{Has, hasb, common, members}
-use Rattle.files.proofs.SetBits.{hasb-true, hasb-has, has-common, common-lt}
-use Rattle.files.proofs.SetMembers.{mem-members, members-ascending}
-use Rattle.documents.specs.Paths.{Below, StrictlyBelow, Descending, towards, depthOf}
-use Rattle.documents.specs.Parts.{Named, given, further}
-use Rattle.documents.specs.PartList.{Entry}
-use Rattle.documents.proofs.Paths.{
-  below-root,
-  below-le,
-  strictly-lt,
-  parent-strictly,
-  towards-below,
-  towards-unique,
-  depth-root,
-  depth-child,
-  depth-below,
-}
-use Rattle.reasoning.specs.Parts.{Part, pathOf, RulesIn, meetAll, childFor, childForAll, kidsOf, partZero}
-use Rattle.reasoning.specs.Reachable.{subtree}
-use Rattle.reasoning.specs.Order.{
-  NumberedIn,
-  Sorted,
-  Matches,
-  Several,
-  SamePart,
-  Precedes,
-  byDepth,
-  byPath,
-  bySeveral,
-  byGoal,
-  Standing,
-  LaysDown,
-  WritesDocument,
-}
-use Rattle.reasoning.specs.Handed.{
-  Start,
-  ReachWords,
-  wordReach,
-  eachOf,
-  onlyIf,
-  severalb,
-  oneKids,
-  chain,
-  allKids,
-  goalRows,
-  pathOrder,
-  childPaths,
-  placeOf,
-  numberOf,
-  kidsOn,
-  entryOn,
-  entriesOn,
-  handedEntries,
-}
-use Rattle.reasoning.proofs.Reachable.{subtree-iff, subtree-small}
-use Rattle.reasoning.proofs.HandedKids.{KidBy, all, alone}
-use Rattle.reasoning.proofs.HandedRows.{
-  Begins,
-  onePart,
-  allPart,
-  row,
-  row-small,
-  KidGoal,
-  ofAll,
-  ofOne,
-  all-kids-small,
-  one-kids-small,
-}
+use Rattle.files.specs.Sets.{Has, hasb}
+use Rattle.files.proofs.SetBits.{hasb-true}
+use Rattle.documents.specs.Paths.{Descending, depthOf}
+use Rattle.documents.specs.Parts.{given, further}
+use Rattle.documents.proofs.Paths.{below-root, depth-below}
+use Rattle.reasoning.specs.Parts.{Part, RulesIn, partZero}
+use Rattle.reasoning.specs.Order.{NumberedIn, Sorted, Several, Precedes, byDepth, byPath, bySeveral, byGoal}
+use Rattle.reasoning.specs.Handed.{Start, ReachWords, eachOf, severalb, chain, goalRows, pathOrder, placeOf, numberOf}
+use Rattle.reasoning.proofs.HandedKids.{all}
+use Rattle.reasoning.proofs.HandedRows.{Begins, row, row-small}
 use Rattle.reasoning.proofs.HandedNamed.{
   Found,
   many,
@@ -88,24 +26,16 @@ use Rattle.reasoning.proofs.HandedNamed.{
   how-many,
   chain-iff,
   NamedPart,
-  goals-of,
   kid-may-stand,
   chain-in-table,
   all-named,
-  kids-of-all,
-  kids-of-one,
-  next-row,
   row-named,
   named-found,
 }
 use Rattle.reasoning.proofs.HandedOrder.{
-  Earlier,
-  beside,
-  child-mem,
   order-sorted,
   order-mem,
   order-in-table,
-  block,
   InBlock,
   in-block,
   block-sorted,
@@ -116,23 +46,7 @@ use Rattle.reasoning.proofs.HandedOrder.{
   number-one,
 }
 use Rattle.reasoning.proofs.Order.{precedes-asym}
-use Rattle.reasoning.proofs.Sorted.{
-  numbered-member,
-  member-numbered,
-  sorted-before,
-  sorted-less,
-  each-from,
-  from-each,
-  sorted-each,
-  matches-append,
-  matches-each,
-  matches-map,
-  matches-right,
-  matches-partner,
-  matches-sorted,
-  ascending-sorted,
-  sorted-ascending,
-}
+use Rattle.reasoning.proofs.Sorted.{numbered-member, sorted-before, each-from, sorted-each}
 
 -- where a list has a member it has a first one
 first-of : {A : Type 0} {l : List A} {n : ℕ} {a : A} → NumberedIn l n a → (b : A) × NumberedIn l 0 b

@@ -1,33 +1,30 @@
 -- The words of goals per path say which parts a document has.
 use Prim.Native.Nat.{ℕ, zero, suc, _+_, _^_, _≤_, _<_}
-use mathlib.Core.Path.{_≡_, refl, sym, ap, subst, _∙_}
+use mathlib.Core.Path.{_≡_, refl, sym, ap, _∙_}
 use mathlib.Core.Logic.{_⊎_, inl, inr, _↔_, Iff·trans}
-use mathlib.Core.Bool.{Bool, true, false, not, false≢true, true≢false}
+use mathlib.Core.Bool.{Bool, true, false, not}
 use mathlib.Core.List.{List, [], _∷_, _++_, List·Memᴰ, List·Memᴰ·head, List·Memᴰ·eq-of-singleton}
-use native.Mathlib.Nat.{add-zero, add-suc}
-use native.Mathlib.Decide.{decLt, ℕ-discrete}
+use native.Mathlib.Nat.{add-zero}
+use native.Mathlib.Decide.{ℕ-discrete}
 use native.Mathlib.Omega.{arith}
-use lib.Dec.{T, eqb, lit<}
+use lib.Dec.{eqb, lit<}
 use lib.ListN.{length, getD, length-append, List·getD-append}
 use lib.Seq.{getD-at}
 use borrow.Author.Tests.{eqb-true, eqb-false}
 use Rattle.files.specs.Table.{Rule}
-use Rattle.files.specs.Sets.{Has, hasb, withPath, common, lowest, withoutLowest}
-use Rattle.files.proofs.SetBits.{hasb-true, hasb-false, not-has, has-with, has-common, with-lt, common-lt}
-use Rattle.files.proofs.SetLowest.{has-lowest, has-without-lowest, without-lowest-lt}
+use Rattle.files.specs.Sets.{Has, hasb, withPath, common}
+use Rattle.files.proofs.SetBits.{hasb-true, hasb-false, not-has, has-with, with-lt, common-lt}
 use Rattle.files.proofs.SetMembers.{size-le}
-use Rattle.documents.specs.Paths.{Below, Descending, towards}
-use Rattle.documents.specs.Parts.{Named, given, further, MayStand}
-use Rattle.documents.proofs.Paths.{below-root, below-le, below-trans, towards-below, towards-unique, parent-strictly, parent-le, parent-fuel}
-use Rattle.reasoning.specs.Parts.{Part, pathOf, RulesIn, Decides, meetAll, childFor, childForAll, kidsOf, partZero}
+use Rattle.documents.specs.Paths.{Descending}
+use Rattle.documents.proofs.Paths.{parent-le, parent-fuel}
+use Rattle.reasoning.specs.Parts.{Part, Decides, meetAll}
 use Rattle.reasoning.specs.Reachable.{subtree}
-use Rattle.reasoning.specs.Order.{Several, Only}
+use Rattle.reasoning.specs.Order.{Only}
 use Rattle.reasoning.specs.Handed.{
   Start,
   ReachWords,
   wordReach,
   severalb,
-  kidWord,
   oneKids,
   chain,
   allKids,
@@ -36,14 +33,12 @@ use Rattle.reasoning.specs.Handed.{
   goalsOn,
   rowsFrom,
   goalRows,
-  climbAll,
 }
-use Rattle.reasoning.proofs.Reachable.{T-hasb, subtree-iff}
-use Rattle.reasoning.proofs.Kids.{Goals, KidOf, kids-are, kid-stands, meet-above}
-use Rattle.reasoning.proofs.Completeness.{named-goals, chain-named}
-use Rattle.reasoning.proofs.HandedWords.{has-none, climb-iff, climb-small, gather-iff, gather-small, Given}
-use Rattle.reasoning.proofs.HandedKids.{GoalWord, KidBy, all, alone, Mode, onWay, meeting, single, meet-one}
-use Rattle.reasoning.proofs.HandedFill.{kid-word, kid-word-small}
+use Rattle.reasoning.proofs.Reachable.{T-hasb}
+use Rattle.reasoning.proofs.Kids.{Goals}
+use Rattle.reasoning.proofs.HandedWords.{has-none, gather-iff, gather-small, Given}
+use Rattle.reasoning.proofs.HandedKids.{GoalWord}
+use Rattle.reasoning.proofs.HandedFill.{kid-word-small}
 
 -- the goals of part 0 as a list and as a set, with their context
 pub record Begins (parent : ℕ → ℕ) (count : ℕ) (goals : List ℕ) (start : Start) : Type 0 where

@@ -1,34 +1,41 @@
 -- The tree that a document written down stands for holds and obeys what the tree of part 0 does.
-use Prim.Native.Nat.{ℕ, _<_}
+use Prim.Native.Nat.{ℕ, suc, _≤_, _<_}
 use mathlib.Core.Path.{_≡_, refl, sym, ap, subst, _∙_}
-use mathlib.Core.Logic.{_↔_}
 use mathlib.Core.Bool.{Bool}
 use mathlib.Core.List.{List, [], _∷_, List·Memᴰ, List·Memᴰ·head, List·Memᴰ·eq-of-singleton}
-use lib.ListN.{getD}
+use native.Mathlib.Omega.{arith}
+use lib.ListN.{length, getD}
 use Rattle.files.specs.Table.{Rule}
-use Rattle.documents.specs.Paths.{Descending}
+use Rattle.files.specs.Sets.{Ascending}
+use Rattle.documents.specs.Paths.{Descending, depthOf}
 use Rattle.documents.specs.Tree.{Forest, Holds, Document}
-use Rattle.documents.specs.Obey.{Implication, Absence, Obeys}
-use Rattle.documents.specs.Parts.{Unfolds, PartHolds, Named, given, further}
-use Rattle.documents.specs.PartList.{Entry, entryPath, entryKids, StandsFor}
+use Rattle.documents.specs.Obey.{Obeys}
+use Rattle.documents.specs.Parts.{Unfolds, PartHolds, Named, given, further, MayStand}
+use Rattle.documents.specs.PartList.{Entry, entryPath, entryKids, StandsFor, NamedEarlier, ValidParts}
+use Rattle.documents.proofs.Paths.{below-le, depth-child}
 use Rattle.documents.proofs.Parts.{list-unfolds, unfolds-document, one-holds, parts-implication, parts-absence, parts-obey}
-use Rattle.documents.proofs.Shared.{
-  Origin,
-  Renames,
-  renamed-holds,
-  renamed-fits,
-  renamed-falls,
-  renamed-implication,
-  renamed-absence,
-  renamed-obey,
-}
+use Rattle.documents.proofs.Shared.{Renames, renamed-holds, renamed-fits, renamed-falls, renamed-implication, renamed-absence, renamed-obey}
 use Rattle.reasoning.specs.Follows.{BreaksImplication, BreaksAbsence, Witnesses}
 use Rattle.reasoning.specs.Parts.{Part, pathOf, RulesIn, Decides, kidsOf, partZero}
-use Rattle.reasoning.specs.Order.{NumberedIn, Only, LaysDown, WritesDocument}
+use Rattle.reasoning.specs.Order.{NumberedIn, Only, byDepth, LaysDown, WritesDocument}
 use Rattle.reasoning.proofs.Kids.{Goals}
-use Rattle.reasoning.proofs.Completeness.{fits, falls, tree-exists}
-use Rattle.reasoning.proofs.Order.{standing-is}
-use Rattle.reasoning.proofs.Sorted.{numbered-unique, numbered-at, numbered-map, numbered-member, matches-right}
+use Rattle.reasoning.proofs.Completeness.{fits, falls, named-goals}
+use Rattle.reasoning.proofs.Order.{precedes-asym, standing-is, member-of}
+use Rattle.reasoning.proofs.Sorted.{
+  numbered-unique,
+  numbered-lt,
+  numbered-under,
+  numbered-at,
+  numbered-map,
+  numbered-member,
+  member-numbered,
+  sorted-less,
+  sorted-number,
+  matches-length,
+  matches-right,
+  ascending-sorted,
+  sorted-ascending,
+}
 
 -- the path and the children of an entry, by its number
 path-at : {es : List Entry} {n : ℕ} {e : Entry} → NumberedIn es n e → entryPath es n ≡ e .path
@@ -97,6 +104,85 @@ module _ {parent : ℕ → ℕ} {rules : List Rule} {count : ℕ} {reach : ℕ �
         };
   }
 
+  laid-under : (n : ℕ) → n < length es → Laid n
+  laid-under n l = laid (numbered-under (w .parts) n (omega (arith, matches-length (w .entries))) .1)
+
+  -- a child and its number
+  record LaidKid (n k : ℕ) : Type 0 where
+    from : Laid n
+    kid : Part
+    isKid : List·Memᴰ kid (kidsOf parent count reach (from .part))
+    number : NumberedIn (w .parts) k kid
+
+  laid-kid : (n k : ℕ) → n < length es → List·Memᴰ k (entryKids es n) → LaidKid n k
+  laid-kid n k l m =
+      let b = laid-under n l in
+      let o = b .lays .only k (subst (λ (l : List ℕ). List·Memᴰ k l) (kids-at (b .at)) m) in
+      record {
+        from = b;
+        kid = o .kid;
+        isKid = o .isKid;
+        number = standing-is desc within decides v plain w (further (b .part) (b .named) (o .isKid)) (o .standing);
+      }
+
+  kid-stands-at : {n k : ℕ} (b : LaidKid n k) → MayStand parent count pathOf (b .from .part .path) (b .kid)
+  kid-stands-at b = fits desc within decides v .each (b .from .part) (b .kid) (b .from .named) (b .isKid)
+
+  -- a child's number is above its parent part's
+  kid-later : {a k : Part} {n m : ℕ} → NumberedIn (w .parts) n a → NumberedIn (w .parts) m k → MayStand parent count pathOf (a .path) k → n < m
+  kid-later {a} {k} p q s =
+      sorted-less precedes-asym (w .ordered) p q
+      (byDepth (omega (arith, depth-child desc (k .path) (s .inner), ap (depthOf parent) (s .parent-is))))
+
+  path-of : {n : ℕ} {a : Part} → NumberedIn (w .parts) n a → entryPath es n ≡ a .path
+  path-of m = let b = laid m in path-at (b .at) ∙ b .lays .path ∙ ap pathOf (numbered-unique (b .number) m)
+
+  named-by : {k : ℕ} {a : Part} → 0 < k → NumberedIn (w .parts) k a → Named (kidsOf parent count reach) (partZero goals ∷ []) a
+      → NamedEarlier es k
+  named-by {k} {a} p m (given g) =
+      let e = List·Memᴰ·eq-of-singleton g in
+      absurd (omega (arith, sorted-number precedes-asym (w .ordered) (subst (NumberedIn (w .parts) k) e m) (w .begins)))
+  named-by {k} {a} p m (further c n g) =
+      let i = member-numbered (member-of desc within decides v plain w n) in
+      let b = laid (i .1) in
+      let is : b .part ≡ c = numbered-unique (b .number) (i .1) in
+      let o = b .lays .all a (subst (λ (z : Part). List·Memᴰ a (kidsOf parent count reach z)) (sym is) g) in
+      let k-is : o .number ≡ k =
+      sorted-number precedes-asym (w .ordered) (standing-is desc within decides v plain w (further c n g) (o .standing)) m in
+      record {
+        by = record {
+          part = i .0;
+          listed = omega (arith, numbered-lt (i .1), matches-length (w .entries));
+          names = subst (λ (z : ℕ). List·Memᴰ z (entryKids es (i .0))) k-is
+              (subst (λ (l : List ℕ). List·Memᴰ (o .number) l) (sym (kids-at (b .at))) (o .listed));
+        };
+        earlier = kid-later (i .1) m (fits desc within decides v .each c a n g);
+      }
+
+  -- the document is a part list that breaks no condition of 01
+  pub document-valid : length es ≤ 512 → ValidParts parent count es
+  document-valid few = record {
+    some = omega (arith, numbered-lt (w .begins), matches-length (w .entries));
+    most = few;
+    root = path-of (w .begins);
+    inside = λ n l.
+        let b = laid-under n l in
+        let g = named-goals desc within decides v (b .named) in
+        omega (arith, path-of (b .number), below-le desc (g .below (g .some) (g .listed)), g .small (g .some) (g .listed));
+    kids = λ n l.
+        let b = laid-under n l in
+        subst (λ (z : List ℕ). Ascending (suc n) z) (sym (kids-at (b .at)))
+        (sorted-ascending (ascending-sorted (b .lays .ascending))
+        (λ k m. let q = laid-kid n k l (subst (λ (z : List ℕ). List·Memᴰ k z) (sym (kids-at (b .at))) m) in
+            kid-later (q .from .number) (q .number) (kid-stands-at q)));
+    below = λ n k l m. omega (arith, numbered-lt (laid-kid n k l m .number), matches-length (w .entries));
+    named = λ k p l. let b = laid-under k l in named-by p (b .number) (b .named);
+    inner = λ n k l m. let b = laid-kid n k l m in omega (arith, path-of (b .number), kid-stands-at b .inner);
+    parent-is = λ n k l m.
+        let b = laid-kid n k l m in
+        ap parent (path-of (b .number)) ∙ kid-stands-at b .parent-is ∙ sym (path-of (b .from .number));
+  }
+
   -- the document stands for some tree
   pub document-stands : (d : Forest) × StandsFor es d
   document-stands =
@@ -107,7 +193,7 @@ module _ {parent : ℕ → ℕ} {rules : List Rule} {count : ℕ} {reach : ℕ �
     pub stands-document : Document parent count d
     stands-document =
         unfolds-document (renamed-fits numbers-rename (fits desc within decides v))
-        (let b = laid (w .begins) in path-at (b .at) ∙ b .lays .path ∙ ap pathOf (numbered-unique (b .number) (w .begins))) (s .unfolds)
+        (path-of (w .begins)) (s .unfolds)
 
     module _ {t : Forest} (u : Unfolds pathOf (kidsOf parent count reach) (partZero goals ∷ []) t) where
       stands-obeys : (more : List Rule) → Obeys parent more t → Obeys parent more d

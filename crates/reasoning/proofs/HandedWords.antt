@@ -1,22 +1,21 @@
 -- The words from which a document is made: the highest member, the paths that pass a test, what members give gathered, the paths above one.
-use Prim.Native.Nat.{ℕ, zero, suc, _+_, _-_, _*_, _/_, _%_, _^_, _≤_, _<_}
+use Prim.Native.Nat.{ℕ, zero, suc, _-_, _/_, _^_, _≤_, _<_}
 use mathlib.Core.Path.{_≡_, refl, sym, subst}
-use mathlib.Core.Logic.{_⊎_, inl, inr, _↔_, _≢_}
+use mathlib.Core.Logic.{_⊎_, inl, inr, _↔_}
 use mathlib.Core.Bool.{Bool, true, false}
-use mathlib.Core.List.{List}
 use native.Mathlib.Nat.{div-lt-iff-lt-mul, pow-suc}
 use native.Mathlib.Decide.{decLt, ℕ-discrete}
 use native.Mathlib.Omega.{arith}
 use lib.Dec.{T, eqb, lit<}
 use lib.Pow.{pow-pos}
-use lib.Count.{leadingZeros, leading-unique}
+use lib.Count.{leading-unique}
 use borrow.Author.Tests.{eqb-true, eqb-false}
-use Rattle.files.specs.Sets.{bit, Has, hasb, withPath, union, lowest, withoutLowest, size}
+use Rattle.files.specs.Sets.{bit, Has, withPath, union, lowest, withoutLowest, size}
 use Rattle.files.proofs.SetBits.{bit-small, bit-past, bit-of-zero, not-has, has-with, has-union, with-lt, union-lt}
 use Rattle.files.proofs.SetLowest.{has-lowest, has-without-lowest, without-lowest-lt}
 use Rattle.files.proofs.SetMembers.{size-without-lowest}
 use Rattle.documents.specs.Paths.{Below, same, Descending}
-use Rattle.documents.proofs.Paths.{below-refl, below-trans, below-step, below-zero, parent-below, parent-fuel, parent-le}
+use Rattle.documents.proofs.Paths.{below-trans, below-step, below-zero, parent-below, parent-fuel, parent-le}
 use Rattle.reasoning.specs.Handed.{highest, pathsWhere, gather, climbAll}
 
 -- a set has nothing in common with the empty one

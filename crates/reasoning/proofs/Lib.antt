@@ -8,8 +8,10 @@ pub mod Evidence
 pub mod EvidenceSize
 pub mod Fill
 pub mod Filling
+pub mod GoalWords
 pub mod Handed
 pub mod HandedBack
+pub mod HandedDisjoint
 pub mod HandedDocuments
 pub mod HandedFill
 pub mod HandedKids
@@ -29,6 +31,7 @@ pub mod Reachable
 pub mod RootPair
 pub mod Search
 pub mod Shows
+pub mod Sizes
 pub mod Sorted
 pub mod Soundness
 pub mod Stepping

@@ -1,7 +1,7 @@
 -- The order of parts goes one way, equal parts of a document are one, and a part has one document written down.
 use Prim.Native.Nat.{ℕ, _<_}
 use mathlib.Core.Path.{_≡_, refl, sym, ap, subst, _∙_}
-use mathlib.Core.Logic.{_⊎_, inl, inr, _↔_}
+use mathlib.Core.Logic.{_↔_}
 use mathlib.Core.Bool.{Bool}
 use mathlib.Core.List.{List, [], _∷_, List·Memᴰ, List·Memᴰ·head, List·Memᴰ·eq-of-singleton}
 use native.Mathlib.Omega.{arith}
@@ -21,8 +21,6 @@ use Rattle.reasoning.specs.Order.{
   bySeveral,
   byGoal,
   Standing,
-  KidAt,
-  NumberOf,
   LaysDown,
   Matches,
   WritesDocument,

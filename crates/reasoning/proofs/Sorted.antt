@@ -1,7 +1,7 @@
 -- Numbered, sorted and matching lists: sorted lists with the same members are equal, and numbers go with the order.
 use Prim.Native.Nat.{ℕ, zero, suc, _+_, _≤_, _<_}
 use mathlib.Core.Path.{_≡_, refl, sym, ap, ap₂, subst, _∙_}
-use mathlib.Core.Logic.{_⊎_, inl, inr, _↔_}
+use mathlib.Core.Logic.{_⊎_, inl, inr}
 use mathlib.Core.List.{
   List,
   [],
@@ -17,10 +17,10 @@ use mathlib.Core.List.{
   Memᴰ·append-left,
   Memᴰ·append-right,
 }
-use native.Mathlib.Nat.{add-zero, zero-add, suc-add}
+use native.Mathlib.Nat.{zero-add, suc-add}
 use native.Mathlib.Decide.{decLt}
 use native.Mathlib.Omega.{arith}
-use lib.ListN.{length, getD, length-append}
+use lib.ListN.{length, getD}
 use Rattle.files.specs.Sets.{Ascending}
 use Rattle.reasoning.specs.Order.{NumberedIn, Sorted, Matches}
 use Rattle.reasoning.specs.Handed.{eachOf}
@@ -41,6 +41,11 @@ module _ {A : Type 0} where
   pub numbered-lt : {l : List A} {n : ℕ} {a : A} → NumberedIn l n a → n < length l
   numbered-lt NumberedIn.first = omega arith
   numbered-lt (NumberedIn.later m) = omega (arith, numbered-lt m)
+
+  pub numbered-under : (l : List A) (n : ℕ) → n < length l → (a : A) × NumberedIn l n a
+  numbered-under [] n h = absurd (omega arith)
+  numbered-under (a ∷ l) zero h = (a, NumberedIn.first)
+  numbered-under (a ∷ l) (suc n) h = let r = numbered-under l n (omega arith) in (r .0, NumberedIn.later (r .1))
 
   pub numbered-at : {l : List A} {n : ℕ} {a : A} (d : A) → NumberedIn l n a → getD l n d ≡ a
   numbered-at d NumberedIn.first = refl

@@ -1,12 +1,11 @@
 // The document handed back: which parts it has, from words of goals.
-ghost use Prim.Native.Nat.{ℕ, _+_, _≤_, _<_};
+ghost use Prim.Native.Nat.{_≤_, _<_};
 ghost use mathlib.Core.Path.{_≡_};
-ghost use lib.ListN.{length, getD};
+ghost use Rattle.files.specs.Rules.{padded};
 ghost use Rattle.documents.specs.Paths.{Descending, towards};
 ghost use Rattle.reasoning.specs.Arrays.{parentOf, Parents};
-ghost use Rattle.reasoning.specs.Known.{DepthsIn};
-ghost use Rattle.reasoning.specs.Handed.{highest, reachAll, coverEach, fillWord, kidWord, oneKids, climbAll, chain, allKids, kidsAt, rootGoals, goalsOn, goalRows, gather, severalb};
-ghost use Rattle.reasoning.specs.Writer.{wordFor, startOf, Tabled};
+ghost use Rattle.reasoning.specs.Handed.{highest, gather, coverEach, fillWord, kidWord, oneKids, climbAll, severalb, allKids, kidsAt, goalRows};
+ghost use Rattle.reasoning.specs.Writer.{wordFor, Tabled, startOf, chainOf, rootOf, goalsHere};
 use crate::reach::reach;
 use crate::steps::parent_of;
 use crate::steps::subtree;
@@ -54,7 +53,7 @@ fn towards(parent: &[u8; 64], c: usize, g: usize) -> usize
 // What is reachable inside c from any of the goals.
 fn reach_all(depth: &[u8; 64], table: &[u64; 512], count: usize, c: usize, goals: u64) -> u64
     requires { ⌜ Tabled (now depth) count ⌝ }
-    ensures { λ r. ⌜ ((parent : ℕ → ℕ) → r ≡ reachAll parent count (wordFor (now (depth .entry)) (now (table .entry)) count) c goals) ⌝ }
+    ensures { λ r. ⌜ r ≡ gather (wordFor (now (depth .entry)) (now (table .entry)) count c) 64 goals 0 ⌝ }
 {
     let mut left = goals;
     let mut all = 0u64;
@@ -170,7 +169,7 @@ fn at_or_above(parent: &[u8; 64], x: usize) -> u64
 // The paths that carry all goals in one part.
 pub(crate) fn chain(parent: &[u8; 64], goals: u64, top: usize) -> u64
     requires { ⌜ Descending (parentOf (now parent)) × (top < 64) ⌝ }
-    ensures { λ r. ⌜ ((count : ℕ) (R : ℕ → ℕ → ℕ) → r ≡ chain (parentOf (now (parent .entry))) count R (startOf goals top)) ⌝ }
+    ensures { λ r. ⌜ r ≡ chainOf (parentOf (now (parent .entry))) goals top ⌝ }
 {
     if several(goals) {
         return at_or_above(parent, top);
@@ -194,9 +193,8 @@ pub(crate) fn all_kids(
     kid_word(parent, depth, table, count, c, goals, top, c != top)
 }
 
-// The goals of all one-goal children of the parts on c, whose one-goal parts have the goals `here`; `whole`: a part on c has
-// all goals.
-fn kids_at(
+// What the children of the one-goal parts on c with goals `here` have for goals, beside `first`.
+fn gather_kids(
     parent: &[u8; 64],
     depth: &[u8; 64],
     table: &[u64; 512],
@@ -215,4 +213,73 @@ fn kids_at(
         left = sets::without_lowest(left);
     }
     all
+}
+
+// The goals of all one-goal children of the parts on c: of the one-goal parts with goals `here`, and of the part with all.
+fn kids_at(
+    parent: &[u8; 64],
+    depth: &[u8; 64],
+    table: &[u64; 512],
+    count: usize,
+    goals: u64,
+    top: usize,
+    whole: u64,
+    c: usize,
+    here: u64,
+) -> u64
+    requires { ⌜ Parents (now parent) count × Tabled (now depth) count × (top < 64) × (whole ≡ chainOf (parentOf (now parent)) goals top) ⌝ }
+    ensures { λ r. ⌜ r ≡ kidsAt (parentOf (now (parent .entry))) count (wordFor (now (depth .entry)) (now (table .entry)) count) (startOf goals top) c here ⌝ }
+{
+    if sets::has(whole, c) {
+        let first = all_kids(parent, depth, table, count, goals, top, c);
+        return gather_kids(parent, depth, table, count, c, here, first);
+    }
+    gather_kids(parent, depth, table, count, c, here, 0)
+}
+
+// The goals of the one-goal parts on the root.
+fn root_goals(goals: u64) -> u64
+    ensures { λ r. ⌜ r ≡ rootOf goals ⌝ }
+{
+    if several(goals) {
+        return 0;
+    }
+    goals
+}
+
+// The goals of the one-goal parts on c, where `named` has for each path before c the goals of the children of its parts.
+fn goals_on(parent: &[u8; 64], count: usize, goals: u64, c: usize, named: &[u64; 64]) -> u64
+    requires { ⌜ Parents (now parent) count × (c < count) ⌝ }
+    ensures { λ r. ⌜ r ≡ goalsHere (parentOf (now (parent .entry))) count goals c (now (named .entry)) ⌝ }
+{
+    if c == 0 {
+        return root_goals(goals);
+    }
+    let up = parent_of(parent, c);
+    sets::common(named[up], subtree(parent, count, c))
+}
+
+// The goals of the one-goal parts on every path.
+pub(crate) fn goal_rows(
+    parent: &[u8; 64],
+    depth: &[u8; 64],
+    table: &[u64; 512],
+    count: usize,
+    goals: u64,
+    top: usize,
+    whole: u64,
+) -> [u64; 64]
+    requires { ⌜ Parents (now parent) count × Tabled (now depth) count × (top < 64) × (whole ≡ chainOf (parentOf (now parent)) goals top) ⌝ }
+    ensures { λ r. ⌜ r ≡ padded 64 (goalRows (parentOf (now (parent .entry))) count (wordFor (now (depth .entry)) (now (table .entry)) count) (startOf goals top)) ⌝ }
+{
+    let mut rows = [0u64; 64];
+    let mut named = [0u64; 64];
+    let mut c = 0usize;
+    while c < count {
+        let here = goals_on(parent, count, goals, c, &named);
+        rows[c] = here;
+        named[c] = kids_at(parent, depth, table, count, goals, top, whole, c, here);
+        c += 1;
+    }
+    rows
 }
