@@ -1,5 +1,6 @@
 pub mod Arrays
 pub mod Decide
+pub mod Emit
 pub mod Evidence
 pub mod Follows
 pub mod Handed
