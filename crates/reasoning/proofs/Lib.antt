@@ -3,6 +3,8 @@ pub mod Answers
 pub mod Completeness
 pub mod Cut
 pub mod Decide
+pub mod Emitting
+pub mod EmittingParts
 pub mod Equivalences
 pub mod Evidence
 pub mod EvidenceSize
@@ -27,6 +29,7 @@ pub mod Moves
 pub mod OneStep
 pub mod Order
 pub mod Pairs
+pub mod Places
 pub mod Reachable
 pub mod RootPair
 pub mod Search
@@ -38,3 +41,4 @@ pub mod Stepping
 pub mod Walks
 pub mod Writes
 pub mod Written
+pub mod WrittenDocument

@@ -3,7 +3,7 @@
 use Prim.Native.Nat.{ℕ, zero, suc, _+_, _≤_, _<_}
 use mathlib.Core.Path.{_≡_}
 use mathlib.Core.Bool.{Bool, true, false, _&&_}
-use mathlib.Core.List.{List, [], _∷_, _++_}
+use mathlib.Core.List.{List, [], _∷_, _++_, List·Memᴰ}
 use lib.Dec.{eqb}
 use lib.ListN.{length, getD, set}
 use lib.Seq.{sets}
@@ -11,10 +11,10 @@ use Rattle.files.specs.Number.{bytesOfAll}
 use Rattle.files.specs.Writing.{wrapped}
 use Rattle.files.specs.Sets.{bit, hasb, withPath, common, sizeBelow, members}
 use Rattle.reasoning.specs.Reachable.{subtree}
-use Rattle.reasoning.specs.Arrays.{Parents}
+use Rattle.reasoning.specs.Arrays.{parentOf, Parents}
 use Rattle.reasoning.specs.Known.{DepthsIn}
-use Rattle.reasoning.specs.Writer.{Tabled}
-use Rattle.reasoning.specs.Handed.{Start, pathsWhere, eachOf, onlyIf, allKids, oneKids, partsOn, childPaths}
+use Rattle.reasoning.specs.Writer.{wordFor, Tabled, startOf}
+use Rattle.reasoning.specs.Handed.{Start, pathsWhere, eachOf, onlyIf, allKids, oneKids, partsOn, childPaths, handedNumbers}
 
 -- how many bytes numbers take, each modulo the limit
 unfoldable pub sizeOf : List ℕ → ℕ
@@ -40,6 +40,12 @@ pub record Ready (parent depth : List ℕ) (count top : ℕ) : Type 0 where
   pub tabled : Tabled depth count
   pub depths : DepthsIn parent count depth
   pub low : top < 64
+
+-- and besides: the document's numbers are small, and so are its bytes
+pub record Writable (parent depth table : List ℕ) (count goals top : ℕ) : Type 0 where
+  pub ready : Ready parent depth count top
+  pub small : (n : ℕ) → List·Memᴰ n (handedNumbers (parentOf parent) count (wordFor depth table count) (startOf goals top)) → n ≤ 449
+  pub short : length (bytesOfAll (handedNumbers (parentOf parent) count (wordFor depth table count) (startOf goals top))) ≤ 65536
 
 -- a set with path x too if a test passes
 unfoldable pub withIf : (w : ℕ) (test : Bool) (x : ℕ) → ℕ

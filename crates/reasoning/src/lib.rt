@@ -1,4 +1,5 @@
 // Walks, dead paths, evidence, and the documents handed back.
+pub(crate) mod document;
 pub(crate) mod goals;
 pub(crate) mod reach;
 pub(crate) mod steps;
