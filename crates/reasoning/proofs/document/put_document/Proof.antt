@@ -4,30 +4,25 @@ use Rattle.reasoning.proofs.document.put_document.Tie as tie
 use Rattle.reasoning.proofs.document.put_document.Reads as reads
 use Rattle.reasoning.proofs.document.put_document.Lts as lts
 use Rattle.reasoning.proofs.document.emit_document.Reads as emit-document-reads
+use Rattle.reasoning.proofs.WrittenDocument.{put-laws}
 
--- src/document.rt:460:9
 emit-document-requires : tie.Need-emit-document-requires
 emit-document-requires c κs = search needs
 
--- src/document.rt:462:9
 same-length : tie.Need-same-length
 same-length c = search needs
 
--- src/document.rt:462:9
 returns : tie.Need-returns
-returns c = ?
+returns c = search (needs, put-laws)
 
--- src/document.rt:464:5
 emit-document-requires-2 : tie.Need-emit-document-requires-2
 emit-document-requires-2 c κs = search needs
 
--- src/document.rt:444:1
 same-length-2 : tie.Need-same-length-2
 same-length-2 c = search needs
 
--- src/document.rt:444:1
 returns-2 : tie.Need-returns-2
-returns-2 c = ?
+returns-2 c = search (needs, put-laws)
 
 pub put-document-spec : {M : Type 1} → statement M
 put-document-spec =

@@ -7,30 +7,25 @@ use Rattle.reasoning.proofs.document.place_all.Reads as place-all-reads
 use Rattle.reasoning.proofs.document.put_document.Reads as put-document-reads
 use Rattle.reasoning.proofs.goals.chain.Reads as chain-reads
 use Rattle.reasoning.proofs.goals.goal_rows.Reads as goal-rows-reads
+use Rattle.reasoning.proofs.WrittenDocument.{document-laws}
 
--- src/document.rt:481:9
 chain-requires : tie.Need-chain-requires
 chain-requires c κs = search needs
 
--- src/document.rt:482:16
 goal-rows-requires : tie.Need-goal-rows-requires
 goal-rows-requires c κs = search needs
 
--- src/document.rt:484:9
 place-all-requires : tie.Need-place-all-requires
 place-all-requires c κs = search needs
 
--- src/document.rt:485:5
 put-document-requires : tie.Need-put-document-requires
-put-document-requires c κs = ?
+put-document-requires c κs = search (needs, document-laws)
 
--- src/document.rt:469:1
 same-length : tie.Need-same-length
 same-length c = search needs
 
--- src/document.rt:469:1
 returns : tie.Need-returns
-returns c = ?
+returns c = search (needs, document-laws)
 
 pub write-document-spec : {M : Type 1} → statement M
 write-document-spec =
