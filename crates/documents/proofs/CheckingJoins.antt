@@ -1,38 +1,45 @@
 -- What checking a document answers is what is so, and nothing else is: the join from the answer to its meaning.
-use Prim.Native.Nat.{ℕ, zero, suc, _+_, _-_, _^_, _<_, _≤_}
+use Prim.Native.Nat.{ℕ, zero, suc, _+_, _^_, _<_, _≤_}
 use mathlib.Core.Path.{_≡_, refl, sym, ap, ap₂, subst, _∙_}
-use mathlib.Core.Logic.{_↔_, ⊎-elim}
 use mathlib.Core.Bool.{Bool, true, false, cond, false≢true}
-use mathlib.Core.List.{List, [], _∷_, map, List·Memᴰ}
-use native.Mathlib.Decide.{decLt, ℕ-discrete}
+use mathlib.Core.List.{List, map}
+use native.Mathlib.Decide.{decLt}
 use native.Mathlib.Omega.{arith}
 use lib.ListN.{length, getD, length-map, List·getD-eq-default}
-use lib.Dec.{ltb, eqb}
+use lib.Dec.{eqb}
 use borrow.Author.Tests.{lt-ltb, le-ltb, eq-eqb, ne-eqb, eqb-true, eqb-false}
 use Rattle.files.specs.declared.rules.Rules.{Rules}
 use Rattle.files.specs.Number.{Bytes, bytesOfAll}
-use Rattle.files.specs.Format.{Outcome, got, refused, runAll, RefusedAt}
+use Rattle.files.specs.Format.{Outcome, got, refused, runAll}
 use Rattle.files.specs.Rules.{rulesOf, ValidTable}
-use Rattle.files.specs.Sets.{members, difference, lowest}
-use Rattle.files.specs.Table.{Path, Rule, Numbered, first, later, parentIn}
+use Rattle.files.specs.Sets.{difference, lowest}
+use Rattle.files.specs.Table.{Path, Rule, Numbered, first, later}
 use Rattle.files.specs.Writing.{tablePasses}
 use Rattle.files.proofs.Formats.{refused-if, refused-only}
 use Rattle.files.proofs.Reader.{paths-own}
 use Rattle.files.proofs.TableTests.{passes-valid}
 use Rattle.documents.specs.declared.check.Checked.{Checked}
 use Rattle.documents.specs.declared.check.Break.{Break}
-use Rattle.documents.specs.declared.check.Break.the-variants.{Unbroken}
 use Rattle.documents.specs.Paths.{Descending}
 use Rattle.documents.specs.Tree.{Forest}
-use Rattle.documents.specs.Obey.{ObeysRule, Obeys, HoldsAll}
+use Rattle.documents.specs.Obey.{ObeysRule, Obeys}
 use Rattle.documents.specs.PartList.{Entry, documentFile, documentNumbers}
 use Rattle.documents.specs.Checking.{held, brokenFrom, orMissing, verdict, judged, checkAnswer, CheckDocument}
-use Rattle.documents.specs.Judgement.{parentOf, Reads, PartBreaks, LeastBreak, LeastMissing, Judged, table, long, file, obeys, broken, missing}
+use Rattle.documents.specs.Judgement.{parentOf, Reads, PartBreaks, LeastBreak, Judged, table, long, file, obeys, broken, missing}
 use Rattle.documents.proofs.ValidLists.{read-valid, valid-read}
-use Rattle.documents.proofs.PartTrees.{stands, stands-unique}
+use Rattle.documents.proofs.PartTrees.{stands}
 use Rattle.documents.proofs.HeldWords.{held-length}
-use Rattle.documents.proofs.RuleBreaks.{Hit, HitBy, RuleSearch, broken as found, unbroken, rule-search}
-use Rattle.documents.proofs.TreeBreaks.{hit-part, part-hit, part-broken, rule-obeyed, all-held, none-missing, least-missing, missing-is}
+use Rattle.documents.proofs.RuleBreaks.{HitBy, RuleSearch, broken as found, unbroken, rule-search}
+use Rattle.documents.proofs.TreeBreaks.{
+  hit-part,
+  part-hit,
+  part-broken,
+  rule-obeyed,
+  all-held,
+  none-missing,
+  least-missing,
+  missing-is,
+}
 
 -- two rules of one number are the same
 numbered-same : {rules : List Rule} {r : ℕ} {ru q : Rule} → Numbered rules r ru → Numbered rules r q → ru ≡ q
@@ -76,9 +83,6 @@ module _ (t : Rules) (v : ValidTable t) where
 -- ---- the parts that were read, judged
 
 module _ (t : Rules) (fits : t .required < 2 ^ 64) (s : List ℕ) where
-  rules : List Rule
-  rules = rulesOf t .rules
-
   -- the verdict on the parts
   verdictOn : List Entry → Checked
   verdictOn es = verdict (t .required) (getD (held es) 0 0) (brokenFrom (parentOf t) 0 (rulesOf t .rules) es (held es))
@@ -91,13 +95,14 @@ module _ (t : Rules) (fits : t .required < 2 ^ 64) (s : List ℕ) where
     unfolding held
     sets-long = held-length 0 es
 
-    search : RuleSearch (parentOf t) es (held es) 0 (rulesOf t .rules) (brokenFrom (parentOf t) 0 (rulesOf t .rules) es (held es))
-    search = rule-search (parentOf t) es (held es) sets-long 0 (rulesOf t .rules)
+    searched : RuleSearch (parentOf t) es (held es) 0 (rulesOf t .rules) (brokenFrom (parentOf t) 0 (rulesOf t .rules) es (held es))
+    searched = rule-search (parentOf t) es (held es) sets-long 0 (rulesOf t .rules)
 
     -- where no part breaks any rule by its set, the document obeys
-    obeys-all : ((r : ℕ) (q : Rule) → Numbered (rulesOf t .rules) r q → (j : ℕ) → ¬ HitBy (parentOf t) es (held es) q j) → Obeys (parentOf t) (rulesOf t .rules) d
+    obeys-all : ((r : ℕ) (q : Rule) → Numbered (rulesOf t .rules) r q → (j : ℕ) → ¬ HitBy (parentOf t) es (held es) q j)
+        → Obeys (parentOf t) (rulesOf t .rules) d
     obeys-all none = record {
-      each = λ r q n. rule-obeyed (descending t valid) (few-paths t valid) (reads .parts) (reads .tree) q (none r q n)
+      each = λ r q n. rule-obeyed (descending t valid) (few-paths t valid) (reads .parts) (reads .tree) q (none r q n);
     }
 
     no-hit : (q : Rule) → ObeysRule (parentOf t) q d → (j : ℕ) → HitBy (parentOf t) es (held es) q j → 1 ≤ q .kind → q .kind ≤ 3 → ⊥
@@ -105,7 +110,8 @@ module _ (t : Rules) (fits : t .required < 2 ^ 64) (s : List ℕ) where
         part-broken (descending t valid) (few-paths t valid) (reads .parts) (reads .tree) q j
         (hit-part (descending t valid) (few-paths t valid) (reads .parts) (reads .tree) q j some few h) o
 
-    hit-breaks : {k : ℕ} (q : Rule) → Numbered (rulesOf t .rules) k q → (i : ℕ) → HitBy (parentOf t) es (held es) q i → PartBreaks (parentOf t) q es d i
+    hit-breaks : {k : ℕ} (q : Rule) → Numbered (rulesOf t .rules) k q → (i : ℕ) → HitBy (parentOf t) es (held es) q i
+        → PartBreaks (parentOf t) q es d i
     hit-breaks {k} q n i h =
         let b = valid .valid .kind k q n in
         hit-part (descending t valid) (few-paths t valid) (reads .parts) (reads .tree) q i (b .0) (b .1) h
@@ -113,7 +119,8 @@ module _ (t : Rules) (fits : t .required < 2 ^ 64) (s : List ℕ) where
     breaks-hit : (q : Rule) (i : ℕ) → PartBreaks (parentOf t) q es d i → HitBy (parentOf t) es (held es) q i
     breaks-hit = part-hit (descending t valid) (few-paths t valid) (reads .parts) (reads .tree)
 
-    least : (k i : ℕ) (ru : Rule) → Numbered (rulesOf t .rules) k ru → HitBy (parentOf t) es (held es) ru i → ((j : ℕ) → j < i → ¬ HitBy (parentOf t) es (held es) ru j)
+    least : (k i : ℕ) (ru : Rule) → Numbered (rulesOf t .rules) k ru → HitBy (parentOf t) es (held es) ru i
+        → ((j : ℕ) → j < i → ¬ HitBy (parentOf t) es (held es) ru j)
         → ((r : ℕ) (q : Rule) → r < k → Numbered (rulesOf t .rules) r q → (j : ℕ) → ¬ HitBy (parentOf t) es (held es) q j)
         → LeastBreak (parentOf t) (rulesOf t .rules) es d k i
     least k i ru n h before earlier =
@@ -142,9 +149,10 @@ module _ (t : Rules) (fits : t .required < 2 ^ 64) (s : List ℕ) where
     -- the verdict is so
     parts-judged : Judged t s (verdictOn es)
     unfolding verdictOn verdict orMissing
-    parts-judged = by search
+    parts-judged = by searched
       where
-        by : {b : Break} → RuleSearch (parentOf t) es (held es) 0 (rulesOf t .rules) b → Judged t s (verdict (t .required) (getD (held es) 0 0) b)
+        by : {b : Break} → RuleSearch (parentOf t) es (held es) 0 (rulesOf t .rules) b
+            → Judged t s (verdict (t .required) (getD (held es) 0 0) b)
         by (found k i ru n h before earlier) =
             let z : k ≡ 0 + k = omega arith in
             subst (λ (x : ℕ). Judged t s (Checked.Broken x i)) z (broken reads (least k i ru n h before earlier))
@@ -156,7 +164,7 @@ module _ (t : Rules) (fits : t .required < 2 ^ 64) (s : List ℕ) where
 
     obeyed-verdict : Obeys (parentOf t) (rulesOf t .rules) d → verdictOn es ≡ orMissing (t .required) (getD (held es) 0 0)
     unfolding verdictOn verdict
-    obeyed-verdict o = by search
+    obeyed-verdict o = by searched
       where
         by : {b : Break} → RuleSearch (parentOf t) es (held es) 0 (rulesOf t .rules) b
             → verdict (t .required) (getD (held es) 0 0) b ≡ orMissing (t .required) (getD (held es) 0 0)
@@ -165,9 +173,10 @@ module _ (t : Rules) (fits : t .required < 2 ^ 64) (s : List ℕ) where
 
     broken-verdict : (k i : ℕ) → LeastBreak (parentOf t) (rulesOf t .rules) es d k i → Checked.Broken k i ≡ verdictOn es
     unfolding verdictOn verdict
-    broken-verdict k i l = by search
+    broken-verdict k i l = by searched
       where
-        least-part : (ru : Rule) (i′ : ℕ) → l .rule ≡ ru → HitBy (parentOf t) es (held es) ru i′ → ((j : ℕ) → j < i′ → ¬ HitBy (parentOf t) es (held es) ru j) → i ≡ i′
+        least-part : (ru : Rule) (i′ : ℕ) → l .rule ≡ ru → HitBy (parentOf t) es (held es) ru i′
+            → ((j : ℕ) → j < i′ → ¬ HitBy (parentOf t) es (held es) ru j) → i ≡ i′
         least-part ru i′ e h before = at (decLt i i′) (decLt i′ i)
           where
             mine : HitBy (parentOf t) es (held es) ru i
@@ -193,7 +202,8 @@ module _ (t : Rules) (fits : t .required < 2 ^ 64) (s : List ℕ) where
             let z : k ≡ 0 + k′ = omega arith in
             ap₂ Checked.Broken z (least-part ru i′ e h before)
 
-        by : {b : Break} → RuleSearch (parentOf t) es (held es) 0 (rulesOf t .rules) b → Checked.Broken k i ≡ verdict (t .required) (getD (held es) 0 0) b
+        by : {b : Break} → RuleSearch (parentOf t) es (held es) 0 (rulesOf t .rules) b
+            → Checked.Broken k i ≡ verdict (t .required) (getD (held es) 0 0) b
         by (found k′ i′ ru n h before earlier) = at-rule k′ i′ ru n h before earlier (decLt k k′) (decLt k′ k)
         by (unbroken none) = absurd (none k (l .rule) (l .numbered) i (breaks-hit (l .rule) i (l .part)))
 
@@ -259,7 +269,8 @@ module _ (t : Rules) (fits : t .required < 2 ^ 64) (s : List ℕ) where
   answer-judged : Bytes s → Judged t s (checkAnswer t s)
   answer-judged bs = by (tablePasses t) refl (decLt 65536 (length s))
     where
-      read : (v : ValidTable t) → length s ≤ 65536 → (o : Outcome (List Entry)) → runAll (documentFile (parentOf t) (t .paths)) s ≡ o → Judged t s (checkAnswer t s)
+      read : (v : ValidTable t) → length s ≤ 65536 → (o : Outcome (List Entry)) → runAll (documentFile (parentOf t) (t .paths)) s ≡ o
+          → Judged t s (checkAnswer t s)
       read v l (refused k at) e =
           subst (Judged t s) (sym (answer-refused v l k at e)) (file v l (refused-only (documentFile (parentOf t) (t .paths)) s bs k at e))
       read v l (got es at) e =
@@ -277,7 +288,8 @@ module _ (t : Rules) (fits : t .required < 2 ^ 64) (s : List ℕ) where
       by true e (no h) = read (passes-valid t fits .0 e) (omega arith) (runAll (documentFile (parentOf t) (t .paths)) s) refl
 
 -- the contract in the words of the code, where each byte of the slice is known to fit
-pub checks : (t : Rules) (s : List ℕ) (r : Checked) → t .required < 2 ^ 64 → ((i : ℕ) → getD s i 0 < 256) → r ≡ checkAnswer t s → CheckDocument t s r
+pub checks : (t : Rules) (s : List ℕ) (r : Checked) → t .required < 2 ^ 64 → ((i : ℕ) → getD s i 0 < 256) → r ≡ checkAnswer t s
+    → CheckDocument t s r
 checks t s r fits bytes e =
     record {
       answer = e;

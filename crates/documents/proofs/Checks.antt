@@ -1,26 +1,25 @@
 -- Laws of checking a document as a whole: refusal 12, then 14, then the file's, then the verdict.
-use Prim.Native.Nat.{ℕ, zero, suc, _+_, _-_, _%_, _^_, _<_, _≤_}
+use Prim.Native.Nat.{ℕ, zero, suc, _+_, _%_, _<_, _≤_}
 use mathlib.Core.Path.{_≡_, refl, sym, ap, ap₂, subst, _∙_}
 use mathlib.Core.Bool.{Bool, true, false, not}
-use mathlib.Core.List.{List, [], _∷_, List·Memᴰ}
+use mathlib.Core.List.{List, List·Memᴰ}
 use native.Mathlib.Omega.{arith}
 use lib.ListN.{length, getD}
 use borrow.Author.Tests.{lt-ltb, le-ltb, not-true, not-false}
 use Rattle.files.specs.declared.rules.Rules.{Rules}
-use Rattle.files.specs.Number.{Bytes}
 use Rattle.files.specs.Format.{Outcome, got, refused, runAll}
-use Rattle.files.specs.Rules.{rulesOf}
-use Rattle.files.specs.Table.{Rule, parentIn}
+use Rattle.files.specs.Rules.{rulesOf, parentsIn}
+use Rattle.files.specs.Table.{parentIn}
 use Rattle.files.specs.Writing.{tablePasses}
 use Rattle.documents.specs.declared.check.Checked.{Checked}
 use Rattle.documents.specs.declared.check.Checked.the-variants.{Refused}
 use Rattle.documents.specs.declared.document.Listed.{Listed}
 use Rattle.documents.specs.PartList.{Entry, entryPath, entryKids, documentFile}
-use Rattle.documents.specs.Reading.{parentAt, kidsAt, entriesFrom, TableParents, DocumentAnswer}
+use Rattle.documents.specs.Reading.{parentAt, kidsAt, entriesFrom, DocumentAnswer}
 use Rattle.documents.specs.Reading.DocumentAnswer.{read, stopped}
 use Rattle.documents.specs.Checking.{held, brokenFrom, verdict, judged, checkAnswer}
 use Rattle.documents.specs.Held.{Laid}
-use Rattle.documents.proofs.Climbing.{parents-are}
+use Rattle.documents.proofs.Climbing.{parents-is}
 use Rattle.documents.proofs.PartLists.{entries-length}
 use Rattle.documents.proofs.ValidLists.{Good, read-good, small, above, inside}
 
@@ -42,17 +41,19 @@ entries-kids s path place n (suc k) (suc i) h =
 
 -- ---- the parts that were read, judged
 
-module _ (t : Rules) (s : List ℕ) (parent : List ℕ) (few : t .paths ≤ 64) (parents : TableParents (t .parent) (t .paths) parent)
-    (path place : List ℕ) (r : Listed) (a : DocumentAnswer s path place (runAll (documentFile (parentAt parent) (t .paths % 256)) s) r) where
+module _ (t : Rules) (s : List ℕ) (parent : List ℕ) (few : t .paths ≤ 64) (parents : parent ≡ parentsIn (t .parent) (t .paths))
+    (path place : List ℕ) (r : Listed)
+    (a : DocumentAnswer s path place (runAll (documentFile (parentAt parent) (t .paths % 256)) s) r) where
   -- the document's format, in the words of the code and of the table
   file-is : runAll (documentFile (parentAt parent) (t .paths % 256)) s ≡ runAll (documentFile (parentIn (rulesOf t .paths)) (t .paths)) s
   unfolding rulesOf
   file-is =
       let e : t .paths % 256 ≡ t .paths = omega arith in
-      ap₂ (λ (p : ℕ → ℕ) (n : ℕ). runAll (documentFile p n) s) (parents-are (t .parent) (t .label) (t .paths) parent few parents) e
+      ap₂ (λ (p : ℕ → ℕ) (n : ℕ). runAll (documentFile p n) s) (parents-is (t .parent) (t .label) (t .paths) parent few parents) e
 
   pub check-refused : {k at : ℕ} → r ≡ Listed.Refused k at
-      → Refused k at ≡ judged (parentIn (rulesOf t .paths)) (rulesOf t .rules) (t .required) (runAll (documentFile (parentIn (rulesOf t .paths)) (t .paths)) s)
+      → Refused k at ≡ judged (parentIn (rulesOf t .paths)) (rulesOf t .rules) (t .required)
+      (runAll (documentFile (parentIn (rulesOf t .paths)) (t .paths)) s)
   unfolding judged
   check-refused {k} {at} f = ap (judged (parentIn (rulesOf t .paths)) (rulesOf t .rules) (t .required)) (sym (sym file-is ∙ by a f))
     where
@@ -105,30 +106,36 @@ module _ (t : Rules) (s : List ℕ) (parent : List ℕ) (few : t .paths ≤ 64) 
               (small (parentAt parent) (t .paths % 256) table es good i (omega (arith, long)));
           later = λ i k h m.
               let n : List·Memᴰ k (entryKids es i) =
-              subst (λ (l : List ℕ). List·Memᴰ k l) (sym (entries-kids s path place 0 count i h ∙ ap (λ (m : ℕ). kidsAt s (getD place m 0)) (zeroed i))) m in
-              (above (parentAt parent) (t .paths % 256) table es good i k (omega (arith, long)) n,
-               omega (arith, long, inside (parentAt parent) (t .paths % 256) table es good i k (omega (arith, long)) n));
+              subst (λ (l : List ℕ). List·Memᴰ k l)
+              (sym (entries-kids s path place 0 count i h ∙ ap (λ (m : ℕ). kidsAt s (getD place m 0)) (zeroed i))) m in (
+                above (parentAt parent) (t .paths % 256) table es good i k (omega (arith, long)) n,
+                omega (arith, long, inside (parentAt parent) (t .paths % 256) table es good i k (omega (arith, long)) n),
+              );
         }
       where
         zeroed : (i : ℕ) → 0 + i ≡ i
         zeroed i = omega arith
+
         long : length es ≡ count
         long = entries-length s path place 0 count
+
         table : t .paths % 256 ≤ 64
         table = omega arith
+
         good : Good (parentAt parent) (t .paths % 256) table es
         good = read-good (parentAt parent) (t .paths % 256) table es s (record { below = bytes }) (taken .after) (taken .is)
 
     pub check-is : (q : Checked)
         → q ≡ verdict (t .required) (getD (held (entriesFrom s path place 0 count)) 0 0)
-          (brokenFrom (parentAt parent) 0 (rulesOf t .rules) (entriesFrom s path place 0 count) (held (entriesFrom s path place 0 count)))
-        → q ≡ judged (parentIn (rulesOf t .paths)) (rulesOf t .rules) (t .required) (runAll (documentFile (parentIn (rulesOf t .paths)) (t .paths)) s)
+        (brokenFrom (parentAt parent) 0 (rulesOf t .rules) (entriesFrom s path place 0 count) (held (entriesFrom s path place 0 count)))
+        → q ≡ judged (parentIn (rulesOf t .paths)) (rulesOf t .rules) (t .required)
+        (runAll (documentFile (parentIn (rulesOf t .paths)) (t .paths)) s)
     unfolding judged es rulesOf
     check-is q g =
         g
         ∙ ap (λ (p : ℕ → ℕ). verdict (t .required) (getD (held (entriesFrom s path place 0 count)) 0 0)
-          (brokenFrom p 0 (rulesOf t .rules) (entriesFrom s path place 0 count) (held (entriesFrom s path place 0 count))))
-          (parents-are (t .parent) (t .label) (t .paths) parent few parents)
+        (brokenFrom p 0 (rulesOf t .rules) (entriesFrom s path place 0 count) (held (entriesFrom s path place 0 count))))
+        (parents-is (t .parent) (t .label) (t .paths) parent few parents)
         ∙ ap (judged (parentIn (rulesOf t .paths)) (rulesOf t .rules) (t .required)) (sym (taken .is) ∙ file-is)
 
 pub ruleset parts-laws = (check-refused, check-some, check-most, check-laid, check-is)
@@ -146,7 +153,8 @@ module _ (t : Rules) (s : List ℕ) (v : Bool) (e : v ≡ tablePasses t) where
     check-14 l = rw (← e, not-false v h, lt-ltb 65536 (length s) l)
 
     pub check-file : (r : Checked) → length s ≤ 65536
-        → r ≡ judged (parentIn (rulesOf t .paths)) (rulesOf t .rules) (t .required) (runAll (documentFile (parentIn (rulesOf t .paths)) (t .paths)) s)
+        → r ≡ judged (parentIn (rulesOf t .paths)) (rulesOf t .rules) (t .required)
+        (runAll (documentFile (parentIn (rulesOf t .paths)) (t .paths)) s)
         → r ≡ checkAnswer t s
     unfolding checkAnswer
     check-file r l f = rw (← e, not-false v h, le-ltb 65536 (length s) l) f

@@ -1,12 +1,12 @@
 -- The set of a part in a valid list is what the part holds.
 use Prim.Native.Nat.{ℕ, zero, suc, _+_, _-_, _<_, _≤_}
-use mathlib.Core.Path.{_≡_, refl, sym, ap, ap₂, subst, _∙_}
-use mathlib.Core.Logic.{_↔_, _⊎_, inl, inr, ⊎-elim}
+use mathlib.Core.Path.{_≡_, refl, sym, ap, subst, _∙_}
+use mathlib.Core.Logic.{_↔_, inl, inr, ⊎-elim}
 use mathlib.Core.List.{List, [], _∷_, List·Memᴰ, List·Memᴰ·head, List·Memᴰ·tail}
 use native.Mathlib.Omega.{arith}
 use lib.ListN.{length, getD, drop}
 use lib.Seq.{getD-drop}
-use Rattle.files.specs.Sets.{Has, withPath, union}
+use Rattle.files.specs.Sets.{Has, withPath}
 use Rattle.files.proofs.SetBits.{bit-of-zero, not-has, has-union, has-with}
 use Rattle.documents.specs.Parts.{PartHolds, own, kid}
 use Rattle.documents.specs.PartList.{Entry, entryPath, entryKids, ValidParts}
@@ -47,7 +47,8 @@ holder-only first hs (k ∷ ks) y h =
     more : Holder first hs ks y → Holder first hs (k ∷ ks) y
     more o = record { part = o .part; listed = List·Memᴰ·tail (o .listed); holds = o .holds }
 
-holder-if : (first : ℕ) (hs : List ℕ) {ks : List ℕ} {k : ℕ} (y : ℕ) → List·Memᴰ k ks → Has (getD hs (k - first) 0) y → Has (heldBy first hs ks) y
+holder-if : (first : ℕ) (hs : List ℕ) {ks : List ℕ} {k : ℕ} (y : ℕ) → List·Memᴰ k ks → Has (getD hs (k - first) 0) y
+    → Has (heldBy first hs ks) y
 unfolding heldBy
 holder-if first hs {k = k} y (List·Memᴰ·head {x = x} {xs = ks} e) h =
     has-union (getD hs (x - first) 0) (heldBy first hs ks) y .1 (inl (subst (λ (z : ℕ). Has (getD hs (z - first) 0) y) e h))
@@ -75,7 +76,8 @@ module _ {parent : ℕ → ℕ} {count : ℕ} {es : List Entry} (valid : ValidPa
 
   holds-if : (j y : ℕ) → j < length es → PartHolds (entryPath es) (entryKids es) j y → Has (setOf j) y
   holds-if j y h (own e) =
-      subst (λ (w : ℕ). Has w y) (sym (set-is j h)) (has-with (heldBy (0 + j + 1) (drop (suc j) (held es)) (entryKids es j)) (entryPath es j) y (path-fits j h) .1 (inl (sym e)))
+      subst (λ (w : ℕ). Has w y) (sym (set-is j h))
+      (has-with (heldBy (0 + j + 1) (drop (suc j) (held es)) (entryKids es j)) (entryPath es j) y (path-fits j h) .1 (inl (sym e)))
   holds-if j y h (kid k m a) =
       let b = holds-if k y (valid .below j k h m) a in
       subst (λ (w : ℕ). Has w y) (sym (set-is j h))
@@ -86,8 +88,10 @@ module _ {parent : ℕ → ℕ} {count : ℕ} {es : List Entry} (valid : ValidPa
   holds-only zero j y f h a = absurd (omega arith)
   holds-only (suc fuel) j y f h a =
       ⊎-elim (λ (e : y ≡ entryPath es j). own (sym e))
-      (λ (b : Has (heldBy (0 + j + 1) (drop (suc j) (held es)) (entryKids es j)) y). by (holder-only (0 + j + 1) (drop (suc j) (held es)) (entryKids es j) y b) (holds-only fuel))
-      (has-with (heldBy (0 + j + 1) (drop (suc j) (held es)) (entryKids es j)) (entryPath es j) y (path-fits j h) .0 (subst (λ (w : ℕ). Has w y) (set-is j h) a))
+      (λ (b : Has (heldBy (0 + j + 1) (drop (suc j) (held es)) (entryKids es j)) y). by
+      (holder-only (0 + j + 1) (drop (suc j) (held es)) (entryKids es j) y b) (holds-only fuel))
+      (has-with (heldBy (0 + j + 1) (drop (suc j) (held es)) (entryKids es j)) (entryPath es j) y (path-fits j h) .0
+      (subst (λ (w : ℕ). Has w y) (set-is j h) a))
     where
       by : Holder (0 + j + 1) (drop (suc j) (held es)) (entryKids es j) y
           → ((k z : ℕ) → length es - k < fuel → k < length es → Has (setOf k) z → PartHolds (entryPath es) (entryKids es) k z)
@@ -95,7 +99,8 @@ module _ {parent : ℕ → ℕ} {count : ℕ} {es : List Entry} (valid : ValidPa
       by o again =
           let l = later valid j (o .part) h (o .listed) in
           kid (o .part) (o .listed)
-          (again (o .part) y (omega arith) (valid .below j (o .part) h (o .listed)) (subst (λ (w : ℕ). Has w y) (child-set j (o .part) l) (o .holds)))
+          (again (o .part) y (omega arith) (valid .below j (o .part) h (o .listed))
+          (subst (λ (w : ℕ). Has w y) (child-set j (o .part) l) (o .holds)))
 
   -- a path is in the set of a part exactly if the part holds it
   pub held-is : (j y : ℕ) → j < length es → Has (getD (held es) j 0) y ↔ PartHolds (entryPath es) (entryKids es) j y

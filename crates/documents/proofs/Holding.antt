@@ -1,9 +1,8 @@
 -- Laws of the pass from the last part to the first: what each part holds, and the parts on each path in ascending order.
-use Prim.Native.Nat.{ℕ, zero, suc, max, _+_, _-_, _*_, _%_, _^_, _<_, _≤_}
+use Prim.Native.Nat.{ℕ, zero, suc, _+_, _-_, _%_, _^_, _<_, _≤_}
 use mathlib.Core.Path.{_≡_, refl, sym, ap, ap₂, subst, _∙_}
-use mathlib.Core.Logic.{⊎-elim}
 use mathlib.Core.List.{List, [], _∷_, List·Memᴰ, List·Memᴰ·head, List·Memᴰ·tail}
-use native.Mathlib.Decide.{decLt, ℕ-discrete}
+use native.Mathlib.Decide.{ℕ-discrete}
 use native.Mathlib.Nat.{pow-suc}
 use native.Mathlib.Omega.{arith}
 use lib.ListN.{length, getD, set, drop, replicate, length-set, getD-replicate}
@@ -14,7 +13,7 @@ use borrow.Author.Tests.{lt-ltb, le-ltb, eq-eqb, ne-eqb}
 use Rattle.files.specs.declared.number.Number.{Number}
 use Rattle.files.specs.declared.number.Number.the-variants.{Is, Refused}
 use Rattle.files.specs.Number.{numberIn}
-use Rattle.files.specs.Sets.{bit, union, withPath}
+use Rattle.files.specs.Sets.{union, withPath}
 use Rattle.files.proofs.Numbers.{place-fits}
 use Rattle.files.proofs.SetBits.{bit-union, same-bits}
 use Rattle.documents.specs.PartList.{Entry}
@@ -45,7 +44,8 @@ under-pow (suc n) = omega (arith, under-pow n, pow-suc 2 n)
 union-assoc : (a b c : ℕ) → union (union a b) c ≡ union a (union b c)
 union-assoc a b c =
     same-bits k (union (union a b) c) (union a (union b c)) (lt (union a b) c (lt a b fa fb) fc) (lt a (union b c) fa (lt b c fb fc))
-    (λ i h. let x = bit-union (union a b) c i in let y = bit-union a b i in let z = bit-union a (union b c) i in let w = bit-union b c i in omega arith)
+    (λ i h. let x = bit-union (union a b) c i in let y = bit-union a b i in let z = bit-union a (union b c) i in let w =
+    bit-union b c i in omega arith)
   where
     k : ℕ
     k = a + b + c
@@ -55,8 +55,10 @@ union-assoc a b c =
 
     fa : a < 2 ^ k
     fa = small a (omega arith)
+
     fb : b < 2 ^ k
     fb = small b (omega arith)
+
     fc : c < 2 ^ k
     fc = small c (omega arith)
 
@@ -110,7 +112,8 @@ module _ (s sets : List ℕ) (at : ℕ) (m : Number) (e : m ≡ numberIn (drop a
   unfolding kidsAt onKid heldAmong
   children-none f = rw (← e, f)
 
-  pub children-are : {many width : ℕ} (r : ℕ) → m ≡ Is many width → r ≡ heldAmong sets (kidsFrom s (at + width) many) → r ≡ heldAmong sets (kidsAt s at)
+  pub children-are : {many width : ℕ} (r : ℕ) → m ≡ Is many width → r ≡ heldAmong sets (kidsFrom s (at + width) many)
+      → r ≡ heldAmong sets (kidsAt s at)
   unfolding kidsAt onKid
   children-are r f g = rw (← e, f) g
 
@@ -197,7 +200,8 @@ module _ (s path place : List ℕ) (count : ℕ) where
       child k x =
           let l = laid .later m k below x in
           let e : m + 1 + (k - (m + 1)) ≡ k = omega arith in
-          sym (set-in sets k (omega arith)) ∙ inv .held k (omega arith) (l .1) ∙ ap heldOf (sym e) ∙ sym (held-at (k - (m + 1)) (m + 1) (omega arith))
+          sym (set-in sets k (omega arith)) ∙ inv .held k (omega arith) (l .1) ∙ ap heldOf (sym e)
+          ∙ sym (held-at (k - (m + 1)) (m + 1) (omega arith))
 
       own : v ≡ heldOf m
       own =
@@ -217,7 +221,8 @@ module _ (s path place : List ℕ) (count : ℕ) where
       firsts-now x h (no n) =
           getD-set-other first p x (m % 512) 0 n ∙ inv .firsts x h ∙ sym (next-later x m below (λ z. n (sym z ∙ sym a)))
 
-      nexts-now : (k : ℕ) → m ≤ k → k < count → Dec (k ≡ m) → getD (set next m (getD first p 0)) k 0 ≡ nextOn (getD path k 0) (k + 1) (from (k + 1))
+      nexts-now : (k : ℕ) → m ≤ k → k < count → Dec (k ≡ m)
+          → getD (set next m (getD first p 0)) k 0 ≡ nextOn (getD path k 0) (k + 1) (from (k + 1))
       nexts-now k h l (yes e) =
           rw e
           (getD-set-same next m (getD first p 0) 0 (omega (arith, inv .next-long))
@@ -243,12 +248,12 @@ module _ (s path place : List ℕ) (count : ℕ) where
         let e : n ≡ n - 1 + 1 = omega arith in
         linked (n - 1) (subst (λ (k : ℕ). Linked s path place count k sets first next) e inv) p w v a b c
 
-  pub link-end : (n : ℕ) (sets first next : List ℕ) → Linked s path place count n sets first next → n ≤ 0 → Linked s path place count 0 sets first next
+  pub link-end : (n : ℕ) (sets first next : List ℕ) → Linked s path place count n sets first next → n ≤ 0
+      → Linked s path place count 0 sets first next
   link-end n sets first next inv h = let e : n ≡ 0 = omega arith in subst (λ (k : ℕ). Linked s path place count k sets first next) e inv
 
   -- the set of a part in the array is what it holds
-  pub linked-held : (sets first next : List ℕ) → Linked s path place count 0 sets first next → (n : ℕ) → n < count → getD sets n 0 ≡ heldOf n
+  pub linked-held : (sets first next : List ℕ) → Linked s path place count 0 sets first next → (n : ℕ) → n < count
+      → getD sets n 0 ≡ heldOf n
   unfolding heldOf
   linked-held sets first next linked n h = linked .held n (omega arith) h
-
-pub ruleset link-laws = (link-start, link-more, link-end)

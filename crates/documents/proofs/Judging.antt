@@ -1,19 +1,19 @@
 -- Laws of judging: along the parts on a rule's context, rule after rule, and the verdict.
 use Prim.Native.Nat.{ℕ, zero, suc, _+_, _-_, _<_, _≤_}
-use mathlib.Core.Path.{_≡_, refl, sym, ap, ap₂, subst, _∙_}
+use mathlib.Core.Path.{_≡_, refl, sym, ap, ap₂, _∙_}
 use mathlib.Core.Bool.{Bool, true, false, cond, not}
 use mathlib.Core.List.{List, [], _∷_}
-use native.Mathlib.Decide.{decLt, ℕ-discrete}
+use native.Mathlib.Decide.{decLt}
 use native.Mathlib.Omega.{arith}
-use lib.ListN.{length, getD}
+use lib.ListN.{getD}
 use lib.Dec.{ltb, eqb}
-use borrow.Author.Tests.{lt-ltb, le-ltb, eq-eqb, ne-eqb, ltb-true, ltb-false, eqb-true, eqb-false}
+use borrow.Author.Tests.{lt-ltb, le-ltb, eq-eqb, ne-eqb, eqb-true}
 use Rattle.files.specs.declared.rules.Rules.{Rules}
 use Rattle.files.specs.Rules.{rulesFrom, rulesOf}
 use Rattle.files.specs.Sets.{hasb, difference, lowest, UpTo64}
 use Rattle.files.specs.Table.{Rule}
 use Rattle.documents.specs.declared.check.Checked.{Checked}
-use Rattle.documents.specs.declared.check.Checked.the-variants.{Obeys, Broken, Missing, Refused}
+use Rattle.documents.specs.declared.check.Checked.the-variants.{Obeys, Broken, Missing}
 use Rattle.documents.specs.declared.check.Place.{Place}
 use Rattle.documents.specs.declared.check.Place.the-variants.{At, Nowhere}
 use Rattle.documents.specs.declared.check.Break.{Break}
@@ -118,7 +118,8 @@ module _ (ru : Rule) (sets next : List ℕ) (count : ℕ) where
 
 pub ruleset along-laws = (along-start, forward-less, along-end, along-here, along-on)
 
-pub rule-is : (parent : ℕ → ℕ) (ru : Rule) (sets first next : List ℕ) (count left right c d n : ℕ) (r : Place) → c ≡ contextOf parent left right → d ≡ c
+pub rule-is : (parent : ℕ → ℕ) (ru : Rule) (sets first next : List ℕ) (count left right c d n : ℕ) (r : Place)
+    → c ≡ contextOf parent left right → d ≡ c
     → d < 256 → n ≡ getD first d 0 → r ≡ breakAlong ru sets next count count n
     → r ≡ breakAlong ru sets next count count (firstOn first (contextOf parent left right))
 unfolding firstOn
@@ -139,7 +140,8 @@ module _ (parent : ℕ → ℕ) (count : ℕ) (sets first next kind left right :
     unfolding brokenAlong rulesFrom rule
     one =
         let f : many - r ≡ suc (many - (r + 1)) = omega arith in
-        ap (λ (p : Place). orLater r p (brokenAlong parent count sets first next (r + 1) (rulesFrom kind left right (r + 1) (many - (r + 1))))) e
+        ap (λ (p : Place). orLater r p
+        (brokenAlong parent count sets first next (r + 1) (rulesFrom kind left right (r + 1) (many - (r + 1))))) e
         ∙ ap (λ (k : ℕ). brokenAlong parent count sets first next r (rulesFrom kind left right r k)) (sym f)
         ∙ inv
 
@@ -153,7 +155,7 @@ module _ (parent : ℕ → ℕ) (count : ℕ) (sets first next kind left right :
 
 pub rules-start : (parent : ℕ → ℕ) (count : ℕ) (sets first next kind left right : List ℕ) (many : ℕ)
     → brokenAlong parent count sets first next 0 (rulesFrom kind left right 0 (many - 0))
-      ≡ brokenAlong parent count sets first next 0 (rulesFrom kind left right 0 many)
+    ≡ brokenAlong parent count sets first next 0 (rulesFrom kind left right 0 many)
 rules-start parent count sets first next kind left right many =
     let e : many - 0 ≡ many = omega arith in ap (λ (k : ℕ). brokenAlong parent count sets first next 0 (rulesFrom kind left right 0 k)) e
 
@@ -195,7 +197,8 @@ module _ (s path place : List ℕ) (count : ℕ) (few : count ≤ 512) where
   next-least c zero n e = omega arith
   next-least c (suc k) n e = by (eqb (getD path n 0) c) (next-least c k (n + 1) (omega arith))
     where
-      by : (t : Bool) → n + 1 ≤ nextOn c (n + 1) (entriesFrom s path place (n + 1) k) → n ≤ cond t n (nextOn c (n + 1) (entriesFrom s path place (n + 1) k))
+      by : (t : Bool) → n + 1 ≤ nextOn c (n + 1) (entriesFrom s path place (n + 1) k)
+          → n ≤ cond t n (nextOn c (n + 1) (entriesFrom s path place (n + 1) k))
       by true h = omega arith
       by false h = omega arith
 
@@ -207,7 +210,8 @@ module _ (s path place : List ℕ) (count : ℕ) (few : count ≤ 512) where
   next-on c (suc k) n e h = by (eqb (getD path n 0) c) refl h (next-on c k (n + 1) (omega arith))
     where
       by : (t : Bool) → eqb (getD path n 0) c ≡ t → cond t n (nextOn c (n + 1) (entriesFrom s path place (n + 1) k)) < count
-          → (nextOn c (n + 1) (entriesFrom s path place (n + 1) k) < count → getD path (nextOn c (n + 1) (entriesFrom s path place (n + 1) k)) 0 ≡ c)
+          → (nextOn c (n + 1) (entriesFrom s path place (n + 1) k) < count
+          → getD path (nextOn c (n + 1) (entriesFrom s path place (n + 1) k)) 0 ≡ c)
           → getD path (cond t n (nextOn c (n + 1) (entriesFrom s path place (n + 1) k))) 0 ≡ c
       by true f g again = eqb-true (getD path n 0) c f
       by false f g again = again g
@@ -227,11 +231,13 @@ module _ (s path place : List ℕ) (count : ℕ) (few : count ≤ 512) where
     unfolding among breakFrom rest
     among-end n h = rw (from-end s path place count n h)
 
-    among-part : (n : ℕ) → n < count → among n ≡ cond (cond (eqb (getD path n 0) c) (breaks ru (heldOf s path place count n)) false) (At n) (among (n + 1))
+    among-part : (n : ℕ) → n < count
+        → among n ≡ cond (cond (eqb (getD path n 0) c) (breaks ru (heldOf s path place count n)) false) (At n) (among (n + 1))
     unfolding among breakFrom rest
     among-part n h =
         ap (breakFrom ru c n (from s path place count n)) (held-part s path place count n h)
-        ∙ ap (λ (l : List Entry). breakFrom ru c n l (heldOf s path place count n ∷ heldFrom (n + 1) (from s path place count (n + 1)))) (from-part s path place count n h)
+        ∙ ap (λ (l : List Entry). breakFrom ru c n l (heldOf s path place count n ∷ heldFrom (n + 1) (from s path place count (n + 1))))
+        (from-part s path place count n h)
 
     -- the parts on other paths are passed over
     among-skip : (k n : ℕ) → n + k ≡ count → among n ≡ among (nextOn c n (entriesFrom s path place n k))
@@ -242,11 +248,14 @@ module _ (s path place : List ℕ) (count : ℕ) (few : count ≤ 512) where
         by : (t : Bool) → eqb (getD path n 0) c ≡ t → among (n + 1) ≡ among (nextOn c (n + 1) (entriesFrom s path place (n + 1) k))
             → among n ≡ among (cond t n (nextOn c (n + 1) (entriesFrom s path place (n + 1) k)))
         by true f again = refl
-        by false f again = among-part n (omega arith) ∙ ap (λ (t : Bool). cond (cond t (breaks ru (heldOf s path place count n)) false) (At n) (among (n + 1))) f ∙ again
+        by false f again = among-part n (omega arith)
+            ∙ ap (λ (t : Bool). cond (cond t (breaks ru (heldOf s path place count n)) false) (At n) (among (n + 1))) f ∙ again
 
     module _ (sets first next : List ℕ) (linked : Linked s path place count 0 sets first next) where
-      next-is : (n : ℕ) → n < count → getD path n 0 ≡ c → getD next n 0 ≡ nextOn c (n + 1) (entriesFrom s path place (n + 1) (count - (n + 1)))
-      next-is n h on = linked .nexts n (omega arith) h ∙ ap (λ (x : ℕ). nextOn x (n + 1) (entriesFrom s path place (n + 1) (count - (n + 1)))) on
+      next-is : (n : ℕ) → n < count → getD path n 0 ≡ c
+          → getD next n 0 ≡ nextOn c (n + 1) (entriesFrom s path place (n + 1) (count - (n + 1)))
+      next-is n h on = linked .nexts n (omega arith) h
+          ∙ ap (λ (x : ℕ). nextOn x (n + 1) (entriesFrom s path place (n + 1) (count - (n + 1)))) on
 
       -- along the parts on the path nothing is missed
       along-among : (fuel n : ℕ) → count - n ≤ fuel → (n < count → getD path n 0 ≡ c) → breakAlong ru sets next count fuel n ≡ among n
@@ -291,7 +300,8 @@ module _ (s path place : List ℕ) (count : ℕ) (few : count ≤ 512) where
           by (no h) = rw (le-ltb c 256 (omega arith)) (sym (next-none c count 0 (omega arith) (λ i l e. omega (arith, laid .small i l))))
 
       part-found : Laid s path place count
-          → breakAlong ru sets next count count (firstOn first c) ≡ breakFrom ru c 0 (entriesFrom s path place 0 count) (heldFrom 0 (entriesFrom s path place 0 count))
+          → breakAlong ru sets next count count (firstOn first c)
+          ≡ breakFrom ru c 0 (entriesFrom s path place 0 count) (heldFrom 0 (entriesFrom s path place 0 count))
       unfolding among rest
       part-found laid =
           let whole : count - 0 ≡ count = omega arith in
@@ -300,7 +310,8 @@ module _ (s path place : List ℕ) (count : ℕ) (few : count ≤ 512) where
           ∙ sym (among-skip count 0 (omega arith))
           ∙ ap (λ (k : ℕ). breakFrom ru c 0 (entriesFrom s path place 0 k) (heldFrom 0 (entriesFrom s path place 0 k))) whole
 
-  module _ (parent : ℕ → ℕ) (sets first next : List ℕ) (linked : Linked s path place count 0 sets first next) (laid : Laid s path place count) where
+  module _ (parent : ℕ → ℕ) (sets first next : List ℕ) (linked : Linked s path place count 0 sets first next)
+      (laid : Laid s path place count) where
     rules-found : (r : ℕ) (rules : List Rule) → brokenAlong parent count sets first next r rules
         ≡ brokenFrom parent r rules (entriesFrom s path place 0 count) (heldFrom 0 (entriesFrom s path place 0 count))
     unfolding brokenAlong brokenFrom
@@ -313,20 +324,20 @@ module _ (s path place : List ℕ) (count : ℕ) (few : count ≤ 512) where
         → found ≡ brokenAlong parent count sets first next 0 (rulesFrom (t .kind) (t .left) (t .right) 0 (t .rules))
         → r ≡ verdict (t .required) (getD sets 0 0) found
         → r ≡ verdict (t .required) (getD (held (entriesFrom s path place 0 count)) 0 0)
-          (brokenFrom parent 0 (rulesOf t .rules) (entriesFrom s path place 0 count) (held (entriesFrom s path place 0 count)))
+        (brokenFrom parent 0 (rulesOf t .rules) (entriesFrom s path place 0 count) (held (entriesFrom s path place 0 count)))
     unfolding held rulesOf
     judge-is t found r some f g =
         let whole : count - 0 ≡ count = omega arith in
         g
         ∙ ap₂ (verdict (t .required))
-          (linked .held 0 (omega arith) some ∙ ap (λ (k : ℕ). getD (heldFrom 0 (entriesFrom s path place 0 k)) 0 0) whole)
-          (f ∙ rules-found 0 (rulesFrom (t .kind) (t .left) (t .right) 0 (t .rules)))
+        (linked .held 0 (omega arith) some ∙ ap (λ (k : ℕ). getD (heldFrom 0 (entriesFrom s path place 0 k)) 0 0) whole)
+        (f ∙ rules-found 0 (rulesFrom (t .kind) (t .left) (t .right) 0 (t .rules)))
 
   pub linked-forward : (sets first next : List ℕ) → Linked s path place count 0 sets first next → Forward count next
   linked-forward sets first next linked = record {
     each = λ n h.
         let tail : n + 1 + (count - (n + 1)) ≡ count = omega arith in
-        omega (arith, linked .nexts n (omega arith) h, next-least (getD path n 0) (count - (n + 1)) (n + 1) tail)
+        omega (arith, linked .nexts n (omega arith) h, next-least (getD path n 0) (count - (n + 1)) (n + 1) tail);
   }
 
 pub ruleset judge-laws = (judge-is, linked-forward)

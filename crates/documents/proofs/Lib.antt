@@ -18,3 +18,4 @@ pub mod HeldWords
 pub mod RuleBreaks
 pub mod TreeBreaks
 pub mod CheckingJoins
+pub mod Refusals

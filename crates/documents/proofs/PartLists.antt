@@ -4,7 +4,7 @@ use mathlib.Core.Path.{_≡_, refl, sym, ap, ap₂, subst, _∙_}
 use mathlib.Core.Bool.{Bool, true, false, cond}
 use mathlib.Core.List.{List, [], _∷_, _++_}
 use native.Mathlib.Omega.{arith}
-use lib.ListN.{length, getD, set, drop, replicate, length-set, length-append}
+use lib.ListN.{length, getD, set, drop, replicate, length-set}
 use lib.Seq.{getD-set-same, getD-set-other}
 use lib.Dec.{ltb}
 use borrow.Author.Tests.{lt-ltb, le-ltb}
@@ -18,7 +18,7 @@ use Rattle.files.specs.RuleFile.{between}
 use Rattle.files.specs.Reading.{tested}
 use Rattle.files.proofs.Formats.{onward, run-then, list-many}
 use Rattle.files.proofs.Padded.{zeros-get}
-use Rattle.files.proofs.ReaderRules.{run-refused, run-taken, tested-fits, between-taken, add-snoc}
+use Rattle.files.proofs.ReaderRules.{run-refused, run-taken, between-taken, add-snoc}
 use Rattle.documents.specs.declared.document.Section.{Section}
 use Rattle.documents.specs.declared.document.OnePart.{OnePart}
 use Rattle.documents.specs.declared.document.Listed.{Listed}
@@ -39,7 +39,8 @@ entries-length s path place n (suc k) = ap suc (entries-length s path place (n +
 abbrev pub entryAt : (s path place : List ℕ) → ℕ → Entry
 entryAt s path place n = record { path = getD path n 0; kids = kidsAt s (getD place n 0) }
 
-entries-last : (s path place : List ℕ) (n k : ℕ) → entriesFrom s path place n (suc k) ≡ entriesFrom s path place n k ++ (entryAt s path place (n + k) ∷ [])
+entries-last : (s path place : List ℕ) (n k : ℕ)
+    → entriesFrom s path place n (suc k) ≡ entriesFrom s path place n k ++ (entryAt s path place (n + k) ∷ [])
 unfolding entriesFrom
 entries-last s path place n zero = let e : n ≡ n + 0 = omega arith in ap (λ (m : ℕ). entryAt s path place m ∷ []) e
 entries-last s path place n (suc k) =
@@ -48,7 +49,8 @@ entries-last s path place n (suc k) =
     (entries-last s path place (n + 1) k ∙ ap (λ (m : ℕ). entriesFrom s path place (n + 1) k ++ (entryAt s path place m ∷ [])) e)
 
 -- a store past them changes none of them
-entries-store : (s path place : List ℕ) (n k i p q : ℕ) → n + k ≤ i → entriesFrom s (set path i p) (set place i q) n k ≡ entriesFrom s path place n k
+entries-store : (s path place : List ℕ) (n k i p q : ℕ) → n + k ≤ i
+    → entriesFrom s (set path i p) (set place i q) n k ≡ entriesFrom s path place n k
 unfolding entriesFrom
 entries-store s path place n zero i p q h = refl
 entries-store s path place n (suc k) i p q h =
@@ -66,9 +68,13 @@ entries-more s path place n p q a b h =
     ap (entriesFrom s (set path n p) (set place n q) 0) e
     ∙ entries-last s (set path n p) (set place n q) 0 n
     ∙ ap₂ (λ (l : List Entry) (x : Entry). l ++ (x ∷ []))
-      (entries-store s path place 0 n n p q (omega arith))
-      (ap (entryAt s (set path n p) (set place n q)) z
-      ∙ (λ j. record { path = getD-set-same path n p 0 (subst (λ (k : ℕ). n < k) (sym a) h) j; kids = kidsAt s (getD-set-same place n q 0 (subst (λ (k : ℕ). n < k) (sym b) h) j) }))
+    (entries-store s path place 0 n n p q (omega arith))
+    (ap (entryAt s (set path n p) (set place n q)) z
+    ∙ (λ j. record {
+      path = getD-set-same path n p 0 (subst (λ (k : ℕ). n < k) (sym a) h) j;
+      kids =
+          kidsAt s (getD-set-same place n q 0 (subst (λ (k : ℕ). n < k) (sym b) h) j);
+    }))
 
 -- ---- the parts that name a part
 
@@ -79,7 +85,7 @@ namers-snoc m (x ∷ es) e = by (listed m (x .kids)) (namers-snoc m es e)
   where
     by : (t : Bool) → namers m (es ++ (e ∷ [])) ≡ namers m es ++ cond (listed m (e .kids)) (e .path ∷ []) []
         → cond t (x .path ∷ namers m (es ++ (e ∷ []))) (namers m (es ++ (e ∷ [])))
-          ≡ cond t (x .path ∷ namers m es) (namers m es) ++ cond (listed m (e .kids)) (e .path ∷ []) []
+        ≡ cond t (x .path ∷ namers m es) (namers m es) ++ cond (listed m (e .kids)) (e .path ∷ []) []
     by true ih = ap (λ (l : List ℕ). x .path ∷ l) ih
     by false ih = ih
 
@@ -90,6 +96,7 @@ set-more m es p ks = ap (addAll 0) (namers-snoc m es (record { path = p; kids = 
     none : (l : List ℕ) → l ++ [] ≡ l
     none [] = refl
     none (x ∷ l) = ap (λ (t : List ℕ). x ∷ t) (none l)
+
     by : (t : Bool) → addAll 0 (namers m es ++ cond t (p ∷ []) []) ≡ cond t (withPath (addAll 0 (namers m es)) p) (addAll 0 (namers m es))
     by true = add-snoc 0 (namers m es) p
     by false = ap (addAll 0) (none (namers m es))
@@ -167,7 +174,8 @@ module _ (s : List ℕ) (parent : ℕ → ℕ) (count size at : ℕ) (path place
         room : n < 512
         room = omega arith
 
-        new : entriesFrom s (set path n p) (set place n kids) 0 (n + 1) ≡ entriesFrom s path place 0 n ++ (record { path = p; kids = kidsAt s kids } ∷ [])
+        new : entriesFrom s (set path n p) (set place n kids) 0 (n + 1)
+            ≡ entriesFrom s path place 0 n ++ (record { path = p; kids = kidsAt s kids } ∷ [])
         new = entries-more s path place n p kids (inv .path-long) (inv .place-long) room
 
         made : run (partAt parent count size n (getD sets n 0)) next (drop next s) ≡ got (record { path = p; kids = kidsAt s kids }) after
@@ -194,7 +202,8 @@ module _ (s : List ℕ) (parent : ℕ → ℕ) (count size at : ℕ) (path place
             let y : place′ ≡ kids = cc in
             let z : next′ ≡ after = cc in
             let k : ks ≡ kidsAt s kids = sym e ∙ ap (kidsAt s) y in
-            made (o ∙ ap₂ got (λ i. record { path = x i; kids = k i }) z) (subst (λ (b : ℕ). Marked b (kidsAt s kids) sets l) x (subst (λ (b : List ℕ). Marked p′ b sets l) k m))
+            made (o ∙ ap₂ got (λ i. record { path = x i; kids = k i }) z)
+            (subst (λ (b : ℕ). Marked b (kidsAt s kids) sets l) x (subst (λ (b : List ℕ). Marked p′ b sets l) k m))
         by part-stopped g o = absurd (let z : _≡_ {A = ℕ} 0 1 = cc in omega arith)
 
   pub parts-end : size ≤ n → PartsAnswer s path place (run (moreParts parent count size size []) at (drop at s)) (Section.Read next)
@@ -257,12 +266,14 @@ module _ (s : List ℕ) (parent : ℕ → ℕ) (count : ℕ) (path place : List 
       run-taken (between 1 513 15) parts s 0 r e f ∙ ap₂ (λ (k m : ℕ). run (parts m) k (drop k s)) z (sym g) in
       rw (h, o) (by a refl (omega arith) (omega arith))
     where
-      ends : {es : List Entry} (next : ℕ) → entriesFrom s path place 0 many ≡ es → 1 ≤ many → many ≤ 512 → (t : Bool) → ltb next (length s) ≡ t
+      ends : {es : List Entry} (next : ℕ) → entriesFrom s path place 0 many ≡ es → 1 ≤ many → many ≤ 512 → (t : Bool)
+          → ltb next (length s) ≡ t
           → DocumentAnswer s path place (cond t (refused 11 next) (got es next)) (cond t (Listed.Refused 11 next) (Listed.Parts many))
       ends next k some few true u = document-stopped
       ends next k some few false u = document-read k some few
 
-      by : {o : Outcome (List Entry)} {w : Section} → PartsAnswer s path place o w → run (moreParts parent count many many []) width (drop width s) ≡ o
+      by : {o : Outcome (List Entry)} {w : Section} → PartsAnswer s path place o w
+          → run (moreParts parent count many many []) width (drop width s) ≡ o
           → 1 ≤ many → many ≤ 512 → DocumentAnswer s path place (atEnd (length s) o) (listedAnswer (length s) many w)
       by (parts-read {es} {next} k) o some few =
           let m : length es ≡ many = parts-many parent count many s many width es next o in

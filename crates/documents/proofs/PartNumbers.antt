@@ -2,19 +2,29 @@
 use Prim.Native.Nat.{ℕ, zero, suc, _+_, _<_, _≤_}
 use mathlib.Core.Path.{_≡_, refl, sym, ap, subst, _∙_}
 use mathlib.Core.Logic.{⊎-elim}
-use mathlib.Core.List.{List, [], _∷_, _++_, append-nil, append-assoc, List·Memᴰ, List·Memᴰ·head, List·Memᴰ·tail, List·Memᴰ·not-nil, List·Memᴰ·cases-cons}
+use mathlib.Core.List.{List, [], _∷_, _++_, append-nil, List·Memᴰ·head, List·Memᴰ·tail, List·Memᴰ·not-nil, List·Memᴰ·cases-cons}
 use native.Mathlib.Omega.{arith}
 use lib.ListN.{length, length-append}
 use lib.Seq.{append-snoc}
 use Rattle.files.specs.Format.{done, andThen, Leads, here, take}
-use Rattle.files.specs.Number.{limit}
-use Rattle.files.specs.RuleFile.{between}
 use Rattle.files.specs.Rules.{addAll}
 use Rattle.files.specs.Sets.{Ascending, none, next}
 use Rattle.files.proofs.FileParts.{Within, ascending-few}
 use Rattle.files.proofs.Leading.{leads-want, leads-done, leads-then, Led, led, leads-split}
 use Rattle.files.proofs.Rows.{between-passes}
-use Rattle.documents.specs.PartList.{Entry, namers, pathTest, moreKids, kidsOn, partAt, onePart, moreParts, documentFile, partNumbers, documentNumbers}
+use Rattle.documents.specs.PartList.{
+  Entry,
+  namers,
+  pathTest,
+  moreKids,
+  kidsOn,
+  partAt,
+  onePart,
+  moreParts,
+  documentFile,
+  partNumbers,
+  documentNumbers,
+}
 use Rattle.documents.proofs.PartReader.{path-small}
 
 -- ---- children
@@ -23,7 +33,8 @@ use Rattle.documents.proofs.PartReader.{path-small}
 data KidsLed (size last k : ℕ) (ks : List ℕ) : List ℕ → List ℕ → Type 0 where
   kids-led : (ns : List ℕ) → length ns ≡ k → Ascending (suc last) ns → Within size ns → KidsLed size last k ks ns (ks ++ ns)
 
-more-kids-only : (size k last : ℕ) (ks : List ℕ) {ns ys : List ℕ} → Leads (moreKids size k last ks) ns (done ys) → KidsLed size last k ks ns ys
+more-kids-only : (size k last : ℕ) (ks : List ℕ) {ns ys : List ℕ} → Leads (moreKids size k last ks) ns (done ys)
+    → KidsLed size last k ks ns ys
 unfolding moreKids
 more-kids-only size zero last ks here =
     subst (KidsLed size last 0 ks []) (append-nil ks) (kids-led [] refl none (λ x m. absurd (List·Memᴰ·not-nil m)))
@@ -83,8 +94,7 @@ module _ (parent : ℕ → ℕ) (count size : ℕ) where
   unfolding onePart partAt
   one-part-only es {ns} {e} l =
       let p = leads-want _ _ l in
-      let k = kids-on-only (length es) (p .number) (p .leads) in
-      (
+      let k = kids-on-only (length es) (p .number) (p .leads) in (
         record {
           passes = ap (pathTest parent count (length es) (addAll 0 (namers (length es) es))) (k .0) ∙ p .passes;
           kids = k .2;
@@ -103,9 +113,11 @@ module _ (parent : ℕ → ℕ) (count size : ℕ) where
         take {n = e .path} (omega arith) (g .passes)
         (take {n = length (e .kids)} (omega arith) refl
         (subst
-        (λ (ns : List ℕ). Leads (andThen (moreKids size (length (e .kids)) (length es) []) (λ ks. done (record { path = e .path; kids = ks }))) ns (done e))
+        (λ (ns : List ℕ). Leads (andThen (moreKids size (length (e .kids)) (length es) [])
+        (λ ks. done (record { path = e .path; kids = ks }))) ns (done e))
         (append-nil (e .kids))
-        (leads-then (λ ks. done (record { path = e .path; kids = ks })) (more-kids-if size (length es) [] (e .kids) few (g .kids) (g .within)) here)))
+        (leads-then (λ ks. done (record { path = e .path; kids = ks }))
+        (more-kids-if size (length es) [] (e .kids) few (g .kids) (g .within)) here)))
 
   -- numbers that lead through k parts, after the parts es
   data PartsLed (es : List Entry) (k : ℕ) : List ℕ → List Entry → Type 0 where
@@ -121,13 +133,15 @@ module _ (parent : ℕ → ℕ) (count size : ℕ) where
   parts-led-more es k e g (parts-led rest f l) =
       subst (PartsLed es (suc k) (partNumbers (e ∷ rest))) (sym (append-snoc es e rest)) (parts-led (e ∷ rest) (ap suc f) (part g l))
 
-  more-parts-only : (k : ℕ) (es : List Entry) {ns : List ℕ} {qs : List Entry} → Leads (moreParts parent count size k es) ns (done qs) → PartsLed es k ns qs
+  more-parts-only : (k : ℕ) (es : List Entry) {ns : List ℕ} {qs : List Entry} → Leads (moreParts parent count size k es) ns (done qs)
+      → PartsLed es k ns qs
   unfolding moreParts
   more-parts-only zero es here = parts-led-none es
   more-parts-only (suc k) es {ns} {qs} l = by (leads-split (onePart parent count size es) _ l) (λ e ms. more-parts-only k (es ++ (e ∷ [])))
     where
       by : {ms : List ℕ} → Led (onePart parent count size es) (λ e. moreParts parent count size k (es ++ (e ∷ []))) qs ms
-          → ((e : Entry) (ms : List ℕ) → Leads (moreParts parent count size k (es ++ (e ∷ []))) ms (done qs) → PartsLed (es ++ (e ∷ [])) k ms qs)
+          → ((e : Entry) (ms : List ℕ) → Leads (moreParts parent count size k (es ++ (e ∷ []))) ms (done qs)
+          → PartsLed (es ++ (e ∷ [])) k ms qs)
           → PartsLed es (suc k) ms qs
       by (led {a = e} {ms = back} l₁ l₂) ih =
           let one = one-part-only es l₁ in
@@ -159,7 +173,8 @@ module _ (parent : ℕ → ℕ) (count : ℕ) where
       let h = between-passes 1 513 15 (k .number) (omega arith) .0 (k .passes) in
       rw (k .all) (by (k .number) (h .0) (h .1) (more-parts-only parent count (k .number) (k .number) [] (k .leads)))
     where
-      by : (size : ℕ) {ms : List ℕ} {qs : List Entry} → 1 ≤ size → size < 513 → PartsLed parent count size [] size ms qs → DocumentLed (size ∷ ms) qs
+      by : (size : ℕ) {ms : List ℕ} {qs : List Entry} → 1 ≤ size → size < 513 → PartsLed parent count size [] size ms qs
+          → DocumentLed (size ∷ ms) qs
       by size some most (parts-led rest e l) =
           record {
             some = omega arith;

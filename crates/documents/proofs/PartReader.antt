@@ -1,5 +1,5 @@
 -- Laws of the part-list reader's functions, in the words of the code: the tests of a part's path, and its children.
-use Prim.Native.Nat.{ℕ, zero, suc, _+_, _-_, _%_, _^_, _<_, _≤_}
+use Prim.Native.Nat.{ℕ, suc, _+_, _-_, _%_, _^_, _<_, _≤_}
 use mathlib.Core.Path.{_≡_, refl, sym, ap, subst, _∙_}
 use mathlib.Core.Bool.{Bool, true, false, cond}
 use mathlib.Core.List.{List, [], _∷_, _++_, append-assoc, append-nil}
@@ -9,8 +9,8 @@ use native.Mathlib.Omega.{arith}
 use lib.ListN.{length, getD, set, drop, length-set}
 use lib.Seq.{getD-set-same, getD-set-other}
 use lib.Pow.{pow-mono}
-use lib.Dec.{ltb, eqb}
-use borrow.Author.Tests.{lt-ltb, le-ltb, eq-eqb, ne-eqb, ltb-true, ltb-false, eqb-true, eqb-false}
+use lib.Dec.{eqb}
+use borrow.Author.Tests.{lt-ltb, le-ltb, eq-eqb, ne-eqb}
 use Rattle.files.specs.declared.number.Number.{Number}
 use Rattle.files.specs.declared.number.Number.the-variants.{Is, Refused}
 use Rattle.files.specs.Number.{numberIn}
@@ -45,18 +45,25 @@ module _ (parent : ℕ → ℕ) (set p : ℕ) where
     unfolding namedTest
     named-root e = rw (ne-eqb set 0 some, eq-eqb p 0 e)
 
+    module _ (inner : p ≡ 0 → ⊥) where
+      pub named-good : set ≡ 2 ^ parent p → 0 ≡ namedTest parent set p
+      unfolding namedTest
+      named-good e = rw (ne-eqb set 0 some, ne-eqb p 0 inner, eq-eqb set (2 ^ parent p) e)
+
+      pub named-else : (set ≡ 2 ^ parent p → ⊥) → 18 ≡ namedTest parent set p
+      unfolding namedTest
+      named-else e = rw (ne-eqb set 0 some, ne-eqb p 0 inner, ne-eqb set (2 ^ parent p) e)
+
     module _ (inner : p ≡ 0 → ⊥) (y x w : ℕ) (a : y ≡ parent p) (b : x ≡ y) (e : w ≡ withPath 0 x) where
       pub named-fits : set ≡ w → 0 ≡ namedTest parent set p
-      unfolding namedTest
-      named-fits f = rw (ne-eqb set 0 some, ne-eqb p 0 inner, eq-eqb set (2 ^ parent p) (by (decLt x 64)))
+      named-fits f = named-good inner (by (decLt x 64))
         where
           by : Dec (x < 64) → set ≡ 2 ^ parent p
           by (yes h) = f ∙ e ∙ with-zero x h ∙ ap (λ (k : ℕ). 2 ^ k) (b ∙ a)
           by (no h) = absurd (some (f ∙ e ∙ with-past 0 x (omega arith)))
 
       pub named-other : (set ≡ w → ⊥) → set < 2 ^ 64 → 18 ≡ namedTest parent set p
-      unfolding namedTest
-      named-other f fits = rw (ne-eqb set 0 some, ne-eqb p 0 inner, ne-eqb set (2 ^ parent p) (by (decLt x 64)))
+      named-other f fits = named-else inner (by (decLt x 64))
         where
           by : Dec (x < 64) → set ≡ 2 ^ parent p → ⊥
           by (yes h) g = f (g ∙ ap (λ (k : ℕ). 2 ^ k) (sym (b ∙ a)) ∙ sym (with-zero x h) ∙ sym e)
@@ -99,7 +106,8 @@ path-small parent count n set p few e = by (ℕ-discrete n 0) (ℕ-discrete p 0)
 -- ---- so many children
 
 -- a child that was read is below the part count
-pub kid-small : (low size k : ℕ) (s : List ℕ) (next : ℕ) (r : Number) {x width : ℕ} (i : ℕ) → r ≡ tested (between low size k) (numberIn (drop next s))
+pub kid-small : (low size k : ℕ) (s : List ℕ) (next : ℕ) (r : Number) {x width : ℕ} (i : ℕ)
+    → r ≡ tested (between low size k) (numberIn (drop next s))
     → 0 < k → r ≡ Is x width → i ≡ x → size ≤ 512 → i < 512
 kid-small low size k s next r {x} {width} i e some f g few =
     let b : (low ≤ x) × (x < size) = between-taken low size k s next x width r some e f in
@@ -168,6 +176,9 @@ mark-more p ks before after x inv long h =
     by m l (no n) =
         subst (Goal m) (sym (ne-eqb x m (λ z. n (sym z))))
         (getD-set-other after x m (withPath (getD after x 0) p) 0 n ∙ inv .each m l ∙ keeps (listed m ks) _ _)
+
+pub mark-is : (l : List ℕ) (k p q w : ℕ) → q ≡ p → w ≡ withPath (getD l k 0) q → set l k w ≡ set l k (withPath (getD l k 0) p)
+mark-is l k p q w e f = ap (set l k) (f ∙ ap (withPath (getD l k 0)) e)
 
 -- the children so far are marked, and reading goes on at `next`
 pub record KidsSoFar (s : List ℕ) (at size n p many : ℕ) (before after : List ℕ) (last next left : ℕ) : Type 0 where
@@ -264,10 +275,11 @@ module _ (s : List ℕ) (at size n p : ℕ) (before after : List ℕ) (m : Numbe
       → q ≡ partOf p at end → PartAnswer s before after (run (kidsOn size n p) at (drop at s)) q
   unfolding kidsOn on onward partOf run kidsAt onKid
   count-is {many} {width} end q f a g =
-      rw
-      (g,
-       run-on {A = Entry} any (λ k. on k) s at many width (sym e ∙ f) refl
-       ∙ run-then (moreKids size many n []) (λ ks. done (record { path = p; kids = ks })) s (at + width))
+      rw (
+        g,
+        run-on {A = Entry} any (λ k. on k) s at many width (sym e ∙ f) refl
+            ∙ run-then (moreKids size many n []) (λ ks. done (record { path = p; kids = ks })) s (at + width),
+      )
       (by a)
     where
       by : {o : Outcome (List ℕ)} {r : Section} → KidsAnswer s (at + width) many p before after o r
@@ -279,7 +291,8 @@ pub ruleset count-laws = (count-bad, count-is, place-fits)
 
 module _ (s : List ℕ) (at : ℕ) (parent : ℕ → ℕ) (count size n set : ℕ) (before after : List ℕ) (r : Number)
     (e : r ≡ tested (pathTest parent count n set) (numberIn (drop at s))) where
-  pub part-bad : {k : ℕ} → r ≡ Refused k → PartAnswer s before after (run (partAt parent count size n set) at (drop at s)) (OnePart.Refused k at)
+  pub part-bad : {k : ℕ} → r ≡ Refused k
+      → PartAnswer s before after (run (partAt parent count size n set) at (drop at s)) (OnePart.Refused k at)
   unfolding partAt
   part-bad {k} f =
       let o : run (partAt parent count size n set) at (drop at s) ≡ refused k at =
@@ -300,6 +313,3 @@ module _ (s : List ℕ) (at : ℕ) (parent : ℕ → ℕ) (count size n set : �
       rw o (rw (small, own) at a)
 
 pub ruleset part-laws = (part-bad, part-is, tested-fits)
-
-pub mark-is : (l m : List ℕ) (k p q w : ℕ) → q ≡ p → w ≡ withPath (getD l k 0) q → set l k w ≡ set l k (withPath (getD l k 0) p)
-mark-is l m k p q w e f = ap (set l k) (f ∙ ap (withPath (getD l k 0)) e)

@@ -6,16 +6,16 @@ use mathlib.Core.Bool.{Bool, true, false, cond, false≢true}
 use mathlib.Core.List.{List, [], _∷_, List·Memᴰ, List·Memᴰ·head, List·Memᴰ·tail, List·Memᴰ·not-nil, List·Memᴰ·cases-cons}
 use native.Mathlib.Decide.{decLt, ℕ-discrete}
 use native.Mathlib.Omega.{arith}
-use lib.ListN.{length, getD}
+use lib.ListN.{length}
 use lib.Dec.{eqb}
 use borrow.Author.Tests.{lt-ltb, eq-eqb, ne-eqb, eqb-true}
 use Rattle.files.specs.Rules.{addAll}
-use Rattle.files.specs.Sets.{Has, bit, withPath}
+use Rattle.files.specs.Sets.{Has, withPath}
 use Rattle.files.specs.RuleFile.{between}
 use Rattle.files.proofs.Rows.{Row, row-between}
-use Rattle.files.proofs.SetBits.{bit-of-zero, bit-pow-same, bit-pow-other, bit-cases, not-has, with-old, has-with}
+use Rattle.files.proofs.SetBits.{bit-of-zero, bit-pow-same, bit-pow-other, not-has, with-old, has-with}
 use Rattle.documents.specs.PartList.{Entry, listed, namers, entryPath, entryKids, Namer, namedTest, pathTest}
-use Rattle.documents.proofs.PartReader.{with-zero, named-none, named-root, path-zero, path-root, path-far}
+use Rattle.documents.proofs.PartReader.{with-zero, named-none, named-root, named-good, named-else, path-zero, path-root, path-far}
 
 -- 15: part count 0 or above 512
 pub row-15 : (n : ℕ) → Row 15 (between 1 513 15 n) ((n ≡ 0) ⊎ (512 < n))
@@ -98,7 +98,8 @@ unfolding addAll
 add-has w [] y small m = absurd (List·Memᴰ·not-nil m)
 add-has w (x ∷ xs) y small m =
     ⊎-elim
-    (λ (e : y ≡ x). add-keeps (withPath w x) xs y (λ z n. small z (List·Memᴰ·tail n)) (has-with w x y (small x (List·Memᴰ·head refl)) .1 (inl e)))
+    (λ (e : y ≡ x). add-keeps (withPath w x) xs y (λ z n. small z (List·Memᴰ·tail n))
+    (has-with w x y (small x (List·Memᴰ·head refl)) .1 (inl e)))
     (add-has (withPath w x) xs y (λ z n. small z (List·Memᴰ·tail n))) (List·Memᴰ·cases-cons m)
 
 -- paths that are all the same
@@ -106,7 +107,8 @@ add-same : (q : ℕ) (xs : List ℕ) → q < 64 → ((x : ℕ) → List·Memᴰ 
 unfolding addAll
 add-same q [] h all = refl
 add-same q (x ∷ xs) h all =
-    let e : withPath (2 ^ q) x ≡ 2 ^ q = ap (withPath (2 ^ q)) (all x (List·Memᴰ·head refl)) ∙ with-old (2 ^ q) q h (record { one = bit-pow-same q }) in
+    let e : withPath (2 ^ q) x ≡ 2 ^ q = ap (withPath (2 ^ q)) (all x (List·Memᴰ·head refl))
+    ∙ with-old (2 ^ q) q h (record { one = bit-pow-same q }) in
     ap (λ (w : ℕ). addAll w xs) e ∙ add-same q xs h (λ y m. all y (List·Memᴰ·tail m))
 
 pub set-one : (q : ℕ) (xs : List ℕ) (y : ℕ) → q < 64 → List·Memᴰ y xs → ((x : ℕ) → List·Memᴰ x xs → x ≡ q) → addAll 0 xs ≡ 2 ^ q
@@ -160,16 +162,6 @@ pub record NamerElsewhere (es : List Entry) (k q : ℕ) : Type 0 where
   pub by : Namer es k
   pub other : entryPath es (by .part) ≢ q
 
--- the test of a namer's path, by the set
-module _ (parent : ℕ → ℕ) (set p : ℕ) (some : set ≢ 0) (inner : p ≢ 0) where
-  named-good : set ≡ 2 ^ parent p → 0 ≡ namedTest parent set p
-  unfolding namedTest
-  named-good e = rw (ne-eqb set 0 some, ne-eqb p 0 inner, eq-eqb set (2 ^ parent p) e)
-
-  named-else : set ≢ 2 ^ parent p → 18 ≡ namedTest parent set p
-  unfolding namedTest
-  named-else e = rw (ne-eqb set 0 some, ne-eqb p 0 inner, ne-eqb set (2 ^ parent p) e)
-
 -- all namers of part k are on path q
 pub record NamersOn (es : List Entry) (k q : ℕ) : Type 0 where
   pub each : (i : ℕ) → i < length es → List·Memᴰ k (entryKids es i) → entryPath es i ≡ q
@@ -212,7 +204,8 @@ module _ (parent : ℕ → ℕ) (count : ℕ) (es : List Entry) (p : ℕ) where
     by-namer later h inner x m (other y k n) =
         let o = namers-only (length es) es y k in
         subst PathIs
-        (named-else parent (addAll 0 xs) p (set-some xs x xs-small m) inner (λ e. n (set-all (parent p) xs y xs-small e k)) ∙ tested later h)
+        (named-else parent (addAll 0 xs) p (set-some xs x xs-small m) inner (λ e. n (set-all (parent p) xs y xs-small e k))
+        ∙ tested later h)
         (elsewhere later h (record { by = o .by; other = λ e. n (sym (o .on) ∙ e) }))
 
     by-set : length es ≢ 0 → p < count → Members xs → Dec (p ≡ 0) → PathIs answer

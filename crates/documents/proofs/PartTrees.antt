@@ -1,13 +1,13 @@
 -- A valid part list stands for exactly one document of the table, in which every part has a copy.
-use Prim.Native.Nat.{ℕ, zero, suc, _-_, _<_, _≤_}
-use mathlib.Core.Path.{_≡_, refl, sym, subst}
+use Prim.Native.Nat.{ℕ, zero, suc, _-_, _<_}
+use mathlib.Core.Path.{_≡_}
 use mathlib.Core.List.{List, [], _∷_, List·Memᴰ, List·Memᴰ·head, List·Memᴰ·eq-of-singleton}
 use native.Mathlib.Decide.{ℕ-discrete}
 use native.Mathlib.Omega.{arith}
 use lib.ListN.{length}
 use Rattle.files.proofs.TableTests.{ascending-from}
 use Rattle.documents.specs.Tree.{Forest, Document}
-use Rattle.documents.specs.Parts.{Named, given, further, Falls, MayStand, Fits}
+use Rattle.documents.specs.Parts.{Named, given, further, Falls, Fits}
 use Rattle.documents.specs.PartList.{Entry, entryPath, entryKids, ValidParts, StandsFor}
 use Rattle.documents.proofs.Parts.{unfolds-unique, unfolds-document, list-unfolds}
 
@@ -38,7 +38,7 @@ module _ {parent : ℕ → ℕ} {count : ℕ} {es : List Entry} (valid : ValidPa
   -- no naming goes round
   pub parts-fall : Falls (entryKids es) (λ n. length es - n) (0 ∷ [])
   parts-fall = record {
-    each = λ n k a m. let h = named-listed a in omega (arith, later n k h m, valid .below n k h m)
+    each = λ n k a m. let h = named-listed a in omega (arith, later n k h m, valid .below n k h m);
   }
 
   -- every naming fits the table
@@ -46,7 +46,7 @@ module _ {parent : ℕ → ℕ} {count : ℕ} {es : List Entry} (valid : ValidPa
   parts-fit = record {
     each = λ n k a m.
         let h = named-listed a in
-        record { inner = valid .inner n k h m; small = valid .inside k (valid .below n k h m); parent-is = valid .parent-is n k h m }
+        record { inner = valid .inner n k h m; small = valid .inside k (valid .below n k h m); parent-is = valid .parent-is n k h m };
   }
 
   -- the list stands for a document of the table, and for no other tree

@@ -1,17 +1,17 @@
 -- Judging by sets finds the least broken rule and the least part that breaks it.
-use Prim.Native.Nat.{ℕ, zero, suc, _+_, _-_, _<_, _≤_}
-use mathlib.Core.Path.{_≡_, refl, sym, ap, subst, subst₂, _∙_}
-use mathlib.Core.Logic.{_↔_, _⊎_, inl, inr, ⊎-elim}
+use Prim.Native.Nat.{ℕ, zero, suc, _+_, _<_, _≤_}
+use mathlib.Core.Path.{_≡_, refl, sym, subst, subst₂, _∙_}
+use mathlib.Core.Logic.{_↔_, inl, inr}
 use mathlib.Core.Bool.{Bool, true, false, cond, not, false≢true}
-use mathlib.Core.List.{List, [], _∷_, map}
-use native.Mathlib.Decide.{decLt, ℕ-discrete}
+use mathlib.Core.List.{List, [], _∷_}
+use native.Mathlib.Decide.{ℕ-discrete}
 use native.Mathlib.Omega.{arith}
 use lib.ListN.{length, getD}
 use lib.Dec.{eqb}
-use borrow.Author.Tests.{eq-eqb, ne-eqb, eqb-true, eqb-false}
+use borrow.Author.Tests.{eq-eqb, ne-eqb, eqb-true}
 use Rattle.files.specs.Sets.{Has, hasb}
 use Rattle.files.specs.Table.{Rule, Numbered, first, later}
-use Rattle.files.proofs.SetBits.{hasb-true, hasb-has, decHas}
+use Rattle.files.proofs.SetBits.{hasb-true, hasb-has}
 use Rattle.documents.specs.declared.check.Place.{Place}
 use Rattle.documents.specs.declared.check.Place.the-variants.{At, Nowhere}
 use Rattle.documents.specs.declared.check.Break.{Break}
@@ -45,7 +45,8 @@ module _ (ru : Rule) (w : ℕ) where
   breaks-only some few e =
       by (ℕ-discrete (ru .kind) 1) (ℕ-discrete (ru .kind) 2) (hasb w (ru .left)) (hasb w (ru .right)) refl refl (sym breaks-is ∙ e)
     where
-      by : Dec (ru .kind ≡ 1) → Dec (ru .kind ≡ 2) → (p q : Bool) → hasb w (ru .left) ≡ p → hasb w (ru .right) ≡ q → by-kind p q ≡ true → Violates ru (Has w)
+      by : Dec (ru .kind ≡ 1) → Dec (ru .kind ≡ 2) → (p q : Bool) → hasb w (ru .left) ≡ p → hasb w (ru .right) ≡ q → by-kind p q ≡ true
+          → Violates ru (Has w)
       by (yes k) d true false f g t = without (inl k) (hasb-true w (ru .left) f) (absent (ru .right) g)
       by (yes k) d true true f g t = absurd (false≢true (sym (rw (eq-eqb (ru .kind) 1 k)) ∙ t))
       by (yes k) d false q f g t = absurd (false≢true (sym (rw (eq-eqb (ru .kind) 1 k)) ∙ t))
@@ -72,17 +73,28 @@ module _ (ru : Rule) (w : ℕ) where
       breaks-is ∙ rw (hasb-has w (ru .left) a, hasb-not (ru .right) b, eq-eqb (ru .kind) 1 k)
   breaks-if (without (inr k) a b) =
       breaks-is
-      ∙ rw
-        (hasb-has w (ru .left) a, hasb-not (ru .right) b, ne-eqb (ru .kind) 1 (λ (z : ru .kind ≡ 1). omega arith),
-         ne-eqb (ru .kind) 2 (λ (z : ru .kind ≡ 2). omega arith))
+      ∙ rw (
+        hasb-has w (ru .left) a,
+        hasb-not (ru .right) b,
+        ne-eqb (ru .kind) 1 (λ (z : ru .kind ≡ 1). omega arith),
+        ne-eqb (ru .kind) 2 (λ (z : ru .kind ≡ 2). omega arith),
+      )
   breaks-if (against k a b) =
       breaks-is
-      ∙ rw
-        (hasb-not (ru .left) a, hasb-has w (ru .right) b, ne-eqb (ru .kind) 1 (λ (z : ru .kind ≡ 1). omega arith),
-         ne-eqb (ru .kind) 2 (λ (z : ru .kind ≡ 2). omega arith))
+      ∙ rw (
+        hasb-not (ru .left) a,
+        hasb-has w (ru .right) b,
+        ne-eqb (ru .kind) 1 (λ (z : ru .kind ≡ 1). omega arith),
+        ne-eqb (ru .kind) 2 (λ (z : ru .kind ≡ 2). omega arith),
+      )
   breaks-if (both k a b) =
       breaks-is
-      ∙ rw (hasb-has w (ru .left) a, hasb-has w (ru .right) b, ne-eqb (ru .kind) 1 (λ (z : ru .kind ≡ 1). omega arith), eq-eqb (ru .kind) 2 k)
+      ∙ rw (
+        hasb-has w (ru .left) a,
+        hasb-has w (ru .right) b,
+        ne-eqb (ru .kind) 1 (λ (z : ru .kind ≡ 1). omega arith),
+        eq-eqb (ru .kind) 2 k,
+      )
 
 -- ---- the least part
 
@@ -107,7 +119,8 @@ module _ (ru : Rule) (c : ℕ) where
   hit-back e es w sets i h = record { listed = omega (arith, h .listed); on = h .on; breaks = h .breaks }
 
   -- the first part is no hit, so the search goes on
-  miss : (e : Entry) (es : List Entry) (w : ℕ) (sets : List ℕ) → cond (eqb (e .path) c) (breaks ru w) false ≡ false → ¬ Hit ru c (e ∷ es) (w ∷ sets) 0
+  miss : (e : Entry) (es : List Entry) (w : ℕ) (sets : List ℕ) → cond (eqb (e .path) c) (breaks ru w) false ≡ false
+      → ¬ Hit ru c (e ∷ es) (w ∷ sets) 0
   unfolding entryPath
   miss e es w sets f h = false≢true (sym f ∙ rw (eq-eqb (e .path) c (h .on)) (h .breaks))
 
@@ -123,7 +136,8 @@ module _ (ru : Rule) (c : ℕ) where
       here true false f g h = absurd (false≢true h)
       here false u f g h = absurd (false≢true h)
 
-      none : cond (eqb (e .path) c) (breaks ru w) false ≡ false → ((j : ℕ) → ¬ Hit ru c es sets j) → (j : ℕ) → ¬ Hit ru c (e ∷ es) (w ∷ sets) j
+      none : cond (eqb (e .path) c) (breaks ru w) false ≡ false → ((j : ℕ) → ¬ Hit ru c es sets j) → (j : ℕ)
+          → ¬ Hit ru c (e ∷ es) (w ∷ sets) j
       none f m zero h = miss e es w sets f h
       none f m (suc j) h = m j (hit-back e es w sets j h)
 
@@ -132,7 +146,8 @@ module _ (ru : Rule) (c : ℕ) where
       before f i m zero l h = miss e es w sets f h
       before f i m (suc j) l h = m j (omega arith) (hit-back e es w sets j h)
 
-      on : {p : Place} → cond (eqb (e .path) c) (breaks ru w) false ≡ false → Search ru c (n + 1) es sets p → Search ru c n (e ∷ es) (w ∷ sets) p
+      on : {p : Place} → cond (eqb (e .path) c) (breaks ru w) false ≡ false → Search ru c (n + 1) es sets p
+          → Search ru c n (e ∷ es) (w ∷ sets) p
       on f (found i h m) =
           let z : n + suc i ≡ n + 1 + i = omega arith in
           subst (λ (k : ℕ). Search ru c n (e ∷ es) (w ∷ sets) (At k)) z (found (suc i) (hit-later e es w sets i h) (before f i m))
@@ -169,7 +184,8 @@ module _ (parent : ℕ → ℕ) (es : List Entry) (sets : List ℕ) (long : leng
   rule-search n (ru ∷ rules) =
       by (search-is ru (contextOf parent (ru .left) (ru .right)) 0 es sets long) (rule-search (n + 1) rules)
     where
-      earlier : ((j : ℕ) → ¬ HitBy parent es sets ru j) → (k : ℕ) → ((r : ℕ) (q : Rule) → r < k → Numbered rules r q → (j : ℕ) → ¬ HitBy parent es sets q j)
+      earlier : ((j : ℕ) → ¬ HitBy parent es sets ru j) → (k : ℕ)
+          → ((r : ℕ) (q : Rule) → r < k → Numbered rules r q → (j : ℕ) → ¬ HitBy parent es sets q j)
           → {r : ℕ} {q : Rule} → Numbered (ru ∷ rules) r q → r < suc k → (j : ℕ) → ¬ HitBy parent es sets q j
       earlier m k f first l = m
       earlier m k f {q = q} (later {r = r} a) l = f r q (omega arith) a
@@ -179,7 +195,8 @@ module _ (parent : ℕ → ℕ) (es : List Entry) (sets : List ℕ) (long : leng
       all m f first = m
       all m f {q = q} (later {r = r} a) = f r q a
 
-      on : {b : Break} → ((j : ℕ) → ¬ HitBy parent es sets ru j) → RuleSearch parent es sets (n + 1) rules b → RuleSearch parent es sets n (ru ∷ rules) b
+      on : {b : Break} → ((j : ℕ) → ¬ HitBy parent es sets ru j) → RuleSearch parent es sets (n + 1) rules b
+          → RuleSearch parent es sets n (ru ∷ rules) b
       on m (broken k i q a h p f) =
           let z : n + suc k ≡ n + 1 + k = omega arith in
           subst (λ (x : ℕ). RuleSearch parent es sets n (ru ∷ rules) (Break.Broken x i)) z
@@ -192,5 +209,6 @@ module _ (parent : ℕ → ℕ) (es : List Entry) (sets : List ℕ) (long : leng
       by (found i h m) again =
           let z : n + 0 ≡ n = omega arith in
           let y : i ≡ 0 + i = omega arith in
-          subst₂ (λ (x v : ℕ). RuleSearch parent es sets n (ru ∷ rules) (Break.Broken x v)) z y (broken 0 i ru first h m (λ r q l. absurd (omega arith)))
+          subst₂ (λ (x v : ℕ). RuleSearch parent es sets n (ru ∷ rules) (Break.Broken x v)) z y
+          (broken 0 i ru first h m (λ r q l. absurd (omega arith)))
       by (nowhere m) again = on m again

@@ -1,22 +1,20 @@
 -- Judging the parts of a valid list by their sets is judging the document that the list stands for.
-use Prim.Native.Nat.{ℕ, _-_, _^_, _<_, _≤_}
-use mathlib.Core.Path.{_≡_, refl, sym, ap, subst, _∙_}
+use Prim.Native.Nat.{ℕ, _^_, _<_, _≤_}
+use mathlib.Core.Path.{_≡_, sym, subst, _∙_}
 use mathlib.Core.Logic.{_↔_, _⊎_, inl, inr, ⊎-elim}
-use mathlib.Core.Bool.{Bool, true, false, cond}
 use mathlib.Core.List.{List, [], _∷_, List·Memᴰ}
 use native.Mathlib.Decide.{decLt, ℕ-discrete}
 use native.Mathlib.Omega.{arith}
 use lib.ListN.{length, getD}
-use lib.Dec.{eqb}
 use Rattle.files.specs.Sets.{Has, bit, difference, lowest, members}
-use Rattle.files.specs.Table.{Rule, Numbered}
+use Rattle.files.specs.Table.{Rule}
 use Rattle.files.proofs.SetBits.{bit-of-zero, bit-absent, bit-cases, not-has, decHas, has-difference, difference-lt}
 use Rattle.files.proofs.SetLowest.{has-lowest, lowest-first}
 use Rattle.files.proofs.SetMembers.{mem-members}
-use Rattle.documents.specs.Paths.{Context, Descending, contextOf}
+use Rattle.documents.specs.Paths.{Context, Descending}
 use Rattle.documents.specs.Tree.{Forest, Node, NodeHolds, Holds}
-use Rattle.documents.specs.Obey.{Implication, Absence, ObeysRule, Obeys, HoldsAll}
-use Rattle.documents.specs.Parts.{Unfolds, PartHolds, Named, PartsImplication, PartsObeyRule}
+use Rattle.documents.specs.Obey.{ObeysRule, HoldsAll}
+use Rattle.documents.specs.Parts.{Unfolds, PartHolds, Named, PartsImplication}
 use Rattle.documents.specs.PartList.{Entry, entryPath, entryKids, ValidParts, StandsFor}
 use Rattle.documents.specs.Checking.{breaks, held}
 use Rattle.documents.specs.Judgement.{Violates, without, against, both, PartBreaks, LeastMissing}
@@ -24,10 +22,11 @@ use Rattle.documents.proofs.Paths.{context-is, context-sym, contextOf-c
 use Rattle.documents.proofs.Parts.{named-copy, copy-holds, one-holds, parts-rule}
 use Rattle.documents.proofs.PartTrees.{named-listed, all-named}
 use Rattle.documents.proofs.HeldWords.{held-is}
-use Rattle.documents.proofs.RuleBreaks.{violates-map, breaks-only, breaks-if, Hit, HitBy}
+use Rattle.documents.proofs.RuleBreaks.{violates-map, breaks-only, breaks-if, HitBy}
 
 -- a document that obeys a rule has no node on the context that breaks it
-obeyed : {parent : ℕ → ℕ} → Descending parent → {ru : Rule} {d : Forest} → ObeysRule parent ru d → {c : ℕ} {under : Forest} → Context parent (ru .left) (ru .right) c
+obeyed : {parent : ℕ → ℕ} → Descending parent → {ru : Rule} {d : Forest} → ObeysRule parent ru d → {c : ℕ} {under : Forest}
+    → Context parent (ru .left) (ru .right) c
     → Node c under d → ¬ Violates ru (NodeHolds c under)
 obeyed desc o {c} {under} x n (without (inl k) a b) = b (o .implication k .every c x under n a)
 obeyed desc o {c} {under} x n (without (inr k) a b) = b (o .along k .every c x under n a)
@@ -82,7 +81,8 @@ module _ {parent : ℕ → ℕ} (desc : Descending parent) {count : ℕ} (table 
           breaks = breaks-if ru (getD (held es) a 0) (violates-map ru (λ y. let w = held-is valid table a y h in (w .1, w .0)) v);
         })
 
-    holds-or : (a y : ℕ) → Named (entryKids es) (0 ∷ []) a → ¬ ¬ PartHolds (entryPath es) (entryKids es) a y → PartHolds (entryPath es) (entryKids es) a y
+    holds-or : (a y : ℕ) → Named (entryKids es) (0 ∷ []) a → ¬ ¬ PartHolds (entryPath es) (entryKids es) a y
+        → PartHolds (entryPath es) (entryKids es) a y
     holds-or a y n k = by (decHas (getD (held es) a 0) y)
       where
         w : Has (getD (held es) a 0) y ↔ PartHolds (entryPath es) (entryKids es) a y
@@ -103,7 +103,7 @@ module _ {parent : ℕ → ℕ} (desc : Descending parent) {count : ℕ} (table 
           absence = λ k. record { never = λ c x a n on hp hq. clear a c n x on (both k hp hq) };
           along = λ k. along (inr k);
           against = λ k. record {
-            every = λ c x a n on hq. holds-or a (ru .left) n (λ hp. clear a c n (context-sym desc x) on (against k hp hq))
+            every = λ c x a n on hq. holds-or a (ru .left) n (λ hp. clear a c n (context-sym desc x) on (against k hp hq));
           };
         })
 
@@ -126,7 +126,8 @@ module _ {parent : ℕ → ℕ} (desc : Descending parent) {count : ℕ} (table 
     held-or : (y : ℕ) → List·Memᴰ y (members required) → ¬ Has rest y → Holds d y
     held-or y m n =
         ⊎-elim (λ (h : Has (getD (held es) 0 0) y). root-holds y .0 h)
-        (λ (z : bit (getD (held es) 0 0) y ≡ 0). absurd (n (rest-is y .1 (mem-members required y fits .0 m, z)))) (bit-cases (getD (held es) 0 0) y)
+        (λ (z : bit (getD (held es) 0 0) y ≡ 0). absurd (n (rest-is y .1 (mem-members required y fits .0 m, z))))
+        (bit-cases (getD (held es) 0 0) y)
 
     pub all-held : difference required (getD (held es) 0 0) ≡ 0 → HoldsAll (members required) d
     unfolding rest
@@ -141,9 +142,11 @@ module _ {parent : ℕ → ℕ} (desc : Descending parent) {count : ℕ} (table 
         by (no n) =
             let l = has-lowest rest (omega (arith, n)) (difference-lt required (getD (held es) 0 0) fits) in
             let r = rest-is (lowest rest) .0 l in
-            absurd (not-has (r .1) (root-holds (lowest rest) .1 (h .each (lowest rest) (mem-members required (lowest rest) fits .1 (r .0)))))
+            absurd (not-has (r .1) (root-holds (lowest rest) .1
+            (h .each (lowest rest) (mem-members required (lowest rest) fits .1 (r .0)))))
 
-    pub least-missing : (difference required (getD (held es) 0 0) ≡ 0 → ⊥) → LeastMissing (members required) d (lowest (difference required (getD (held es) 0 0)))
+    pub least-missing : (difference required (getD (held es) 0 0) ≡ 0 → ⊥)
+        → LeastMissing (members required) d (lowest (difference required (getD (held es) 0 0)))
     unfolding rest
     least-missing n =
         let l = has-lowest rest (omega (arith, n)) (difference-lt required (getD (held es) 0 0) fits) in
@@ -155,7 +158,8 @@ module _ {parent : ℕ → ℕ} (desc : Descending parent) {count : ℕ} (table 
         }
 
     -- a required path that is missing is the least one only if it is the lowest of the rest
-    pub missing-is : (x : ℕ) → LeastMissing (members required) d x → (difference required (getD (held es) 0 0) ≡ 0 → ⊥) × (lowest (difference required (getD (held es) 0 0)) ≡ x)
+    pub missing-is : (x : ℕ) → LeastMissing (members required) d x
+        → (difference required (getD (held es) 0 0) ≡ 0 → ⊥) × (lowest (difference required (getD (held es) 0 0)) ≡ x)
     unfolding rest
     missing-is x m =
         let absent : bit (getD (held es) 0 0) x ≡ 0 = bit-absent (getD (held es) 0 0) x (λ h. m .missing (root-holds x .0 h)) in
@@ -165,7 +169,8 @@ module _ {parent : ℕ → ℕ} (desc : Descending parent) {count : ℕ} (table 
         let r = rest-is (lowest rest) .0 l in
         (some, by (decLt (lowest rest) x) (lowest-first rest x there) (r .0) (r .1))
       where
-        by : Dec (lowest rest < x) → lowest rest ≤ x → Has required (lowest rest) → bit (getD (held es) 0 0) (lowest rest) ≡ 0 → lowest rest ≡ x
+        by : Dec (lowest rest < x) → lowest rest ≤ x → Has required (lowest rest) → bit (getD (held es) 0 0) (lowest rest) ≡ 0
+            → lowest rest ≡ x
         by (yes h) le a b =
             absurd (not-has b (root-holds (lowest rest) .1 (m .before (lowest rest) h (mem-members required (lowest rest) fits .1 a))))
         by (no h) le a b = omega arith

@@ -1,7 +1,7 @@
 -- Checking a document: what is held, which rule is broken, what is missing, and the answer.
-use Prim.Native.Nat.{ℕ, zero, suc, _+_, _-_}
+use Prim.Native.Nat.{ℕ, _+_, _-_}
 use mathlib.Core.Path.{_≡_}
-use mathlib.Core.Bool.{Bool, true, false, cond, not}
+use mathlib.Core.Bool.{Bool, false, cond, not}
 use mathlib.Core.List.{List, [], _∷_}
 use lib.ListN.{length, getD}
 use lib.Dec.{ltb, eqb}
@@ -80,7 +80,8 @@ unfoldable pub checkAnswer : Rules → List ℕ → Checked
 checkAnswer t s =
     cond (tablePasses t)
     (cond (ltb 65536 (length s)) (Refused 14 0)
-    (judged (parentIn (rulesOf t .paths)) (rulesOf t .rules) (t .required) (runAll (documentFile (parentIn (rulesOf t .paths)) (t .paths)) s)))
+    (judged (parentIn (rulesOf t .paths)) (rulesOf t .rules) (t .required)
+    (runAll (documentFile (parentIn (rulesOf t .paths)) (t .paths)) s)))
     (Refused 12 0)
 
 -- what checking a document promises, on every table and all bytes

@@ -1,10 +1,10 @@
 -- What the functions of the part-list reader answer.
-use Prim.Native.Nat.{ℕ, zero, suc, _+_, _-_, _≤_, _<_}
+use Prim.Native.Nat.{ℕ, zero, suc, _+_, _≤_, _<_}
 use mathlib.Core.Path.{_≡_}
 use mathlib.Core.Bool.{cond}
 use mathlib.Core.List.{List, [], _∷_}
 use lib.ListN.{length, getD, drop}
-use lib.Dec.{ltb, eqb}
+use lib.Dec.{ltb}
 use Rattle.files.specs.declared.number.Number.{Number}
 use Rattle.files.specs.declared.number.Number.the-variants.{Is, Refused}
 use Rattle.files.specs.Number.{numberIn}
@@ -18,14 +18,6 @@ use Rattle.documents.specs.PartList.{Entry, listed}
 -- the parent of a path as an array of 64 has it; 0 past it
 unfoldable pub parentAt : List ℕ → ℕ → ℕ
 parentAt parent x = cond (ltb x 64) (getD parent x 0) 0
-
--- the parent of path x as it is kept for a table of `count` paths: 0 for the root and for a path past the table
-unfoldable pub kept : ℕ → ℕ → ℕ → ℕ
-kept parent x count = cond (eqb x 0) 0 (cond (ltb x count) parent 0)
-
--- the array of 64 has the parents of a table of `count` paths, given in another array
-pub record TableParents (parent : List ℕ) (count : ℕ) (r : List ℕ) : Type 0 where
-  pub each : (x : ℕ) → x < 64 → getD r x 0 ≡ kept (getD parent x 0) x count
 
 -- what follows a number, if one stands there
 unfoldable pub onKid : (ℕ → ℕ → List ℕ) → Number → List ℕ

@@ -13,18 +13,17 @@ ghost use Rattle.documents.specs.PartList.{documentFile};
 ghost use Rattle.documents.specs.Checking.{breaks, brokenFrom, held, orMissing, verdict, judged, CheckDocument};
 ghost use Rattle.documents.specs.Reading.{parentAt, entriesFrom};
 ghost use Rattle.documents.specs.Held.{Laid, Forward, rule, firstOn, breakAlong, brokenAlong};
-
-use files::rules::Rules;
+use crate::context::context;
+use crate::document::Listed;
+use crate::document::read_document;
+use crate::held::hold_all;
 use files::number::wide;
+use files::rules::Rules;
+use files::rules::parents;
 use files::sets::difference;
 use files::sets::has;
 use files::sets::lowest;
 use files::valid::valid_table;
-use crate::held::hold_all;
-use crate::document::Listed;
-use crate::document::read_document;
-use crate::context::context;
-use crate::context::parents;
 
 // Whether a document obeys: the least broken rule and the least part that breaks it, the least required path missing, or the
 // refusal's number and place.
@@ -36,13 +35,13 @@ pub enum Checked {
 }
 
 // Where among the parts something stands: its number, or nowhere.
-pub enum Place {
+enum Place {
     At(usize),
     Nowhere,
 }
 
 // The least broken rule and the least part that breaks it.
-pub enum Break {
+enum Break {
     Broken(usize, usize),
     Unbroken,
 }
@@ -177,8 +176,10 @@ fn judge(
     place: &[usize; 512],
 ) -> Checked
     requires { ⌜ (rules .rules ≤ 256) × (1 ≤ count) × (count ≤ 512) × Laid (now s) (now path) (now place) count ⌝ }
-    ensures { λ r. ⌜ r ≡ verdict (rules .required) (getD (held (entriesFrom (now (s .entry)) (now (path .entry)) (now (place .entry)) 0 count)) 0 0)
-        (brokenFrom (parentAt (now (parent .entry))) 0 (rulesOf rules .rules) (entriesFrom (now (s .entry)) (now (path .entry)) (now (place .entry)) 0 count)
+    ensures { λ r. ⌜ r ≡ verdict (rules .required)
+        (getD (held (entriesFrom (now (s .entry)) (now (path .entry)) (now (place .entry)) 0 count)) 0 0)
+        (brokenFrom (parentAt (now (parent .entry))) 0 (rulesOf rules .rules)
+        (entriesFrom (now (s .entry)) (now (path .entry)) (now (place .entry)) 0 count)
         (held (entriesFrom (now (s .entry)) (now (path .entry)) (now (place .entry)) 0 count))) ⌝ }
 {
     let mut sets = [0u64; 512];
@@ -188,7 +189,17 @@ fn judge(
     let kind = rules.kind;
     let left = rules.left;
     let right = rules.right;
-    let found = broken_rule(&kind, &left, &right, rules.rules, parent, count, &sets, &first, &next);
+    let found = broken_rule(
+        &kind,
+        &left,
+        &right,
+        rules.rules,
+        parent,
+        count,
+        &sets,
+        &first,
+        &next,
+    );
     verdict(rules.required, sets[0], found)
 }
 
@@ -202,7 +213,13 @@ fn check_parts(rules: Rules, document: &[u8]) -> Checked
     let parent = parents(&given, rules.paths);
     let mut path = [0u8; 512];
     let mut place = [0usize; 512];
-    match read_document(document, &parent, (rules.paths % 256) as u32, &mut path, &mut place) {
+    match read_document(
+        document,
+        &parent,
+        (rules.paths % 256) as u32,
+        &mut path,
+        &mut place,
+    ) {
         Listed::Refused(why, at) => Checked::Refused(why, at),
         Listed::Parts(count) => judge(rules, &parent, document, count, &path, &place),
     }

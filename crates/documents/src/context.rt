@@ -1,36 +1,9 @@
-// The parents of a table's paths, and the context of two paths.
+// The parent of a path, and the context of two paths.
 ghost use Prim.Native.Nat.{ℕ, _+_, _-_, _<_};
 ghost use mathlib.Core.Path.{_≡_};
 ghost use Rattle.documents.specs.Paths.{meet, contextOf};
-ghost use Rattle.documents.specs.Reading.{kept, parentAt, TableParents};
-
+ghost use Rattle.documents.specs.Reading.{parentAt};
 use files::number::wide;
-
-// The parent of path x as it is kept: 0 for the root and for a path past the table.
-fn kept(parent: u8, x: usize, count: usize) -> u8
-    ensures { λ r. ⌜ r ≡ kept parent x count ⌝ }
-{
-    if x == 0 {
-        return 0;
-    }
-    if x < count {
-        return parent;
-    }
-    0
-}
-
-// The parents of a table of `count` paths: 0 for the root and past the table, whatever stands there.
-pub fn parents(parent: &[u8; 64], count: usize) -> [u8; 64]
-    ensures { λ r. ⌜ TableParents (now (parent .entry)) count r ⌝ }
-{
-    let mut out = [0u8; 64];
-    let mut x = 0usize;
-    while x < 64 {
-        out[x] = kept(parent[x], x, count);
-        x += 1;
-    }
-    out
-}
 
 // The parent of a path; 0 past the 64 paths.
 pub(crate) fn parent_of(parent: &[u8; 64], x: u8) -> u8

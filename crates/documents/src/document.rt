@@ -9,30 +9,29 @@ ghost use Rattle.files.specs.Format.{run, runAll, atEnd};
 ghost use Rattle.files.specs.Reading.{tested};
 ghost use Rattle.documents.specs.PartList.{namedTest, pathTest, moreKids, kidsOn, partAt, moreParts, documentFile};
 ghost use Rattle.documents.specs.Reading.{parentAt, KidsAnswer, PartAnswer, partOf, PartsAnswer, listedAnswer, DocumentAnswer};
-
+use crate::context::parent_of;
 use files::number::Number;
 use files::number::read_number;
-use files::read::passed;
-use files::read::read_between;
 use files::number::wide;
 use files::number::wide_number;
+use files::read::passed;
+use files::read::read_between;
 use files::sets::with;
-use crate::context::parent_of;
 
 // The place after a section, or its refusal.
-pub enum Section {
+enum Section {
     Read(usize),
     Refused(u8, usize),
 }
 
 // One part: its path, where its child count stands and the place after it.
-pub enum OnePart {
+enum OnePart {
     Is(u8, usize, usize),
     Refused(u8, usize),
 }
 
 // How many parts a document has, or its refusal.
-pub enum Listed {
+pub(crate) enum Listed {
     Parts(usize),
     Refused(u8, usize),
 }
@@ -100,7 +99,8 @@ fn read_kids(
     namers: &mut [u64; 512],
 ) -> Section
     requires { ⌜ (size ≤ 512) × (n < 512) × (length (now namers) ≡ 512) ⌝ }
-    ensures { λ r. ⌜ KidsAnswer (now (s .entry)) at many p (now (namers .entry)) (now (namers .exit)) (run (moreKids size many n []) at (drop at (now (s .entry)))) r ⌝ }
+    ensures { λ r. ⌜ KidsAnswer (now (s .entry)) at many p (now (namers .entry)) (now (namers .exit))
+        (run (moreKids size many n []) at (drop at (now (s .entry)))) r ⌝ }
 {
     let mut last = n;
     let mut next = at;
@@ -134,11 +134,16 @@ fn part_of(p: u8, place: usize, end: Section) -> OnePart
 // The children of part n, which is on path p: their count first.
 fn read_kid_count(s: &[u8], at: usize, size: u32, n: u32, p: u8, namers: &mut [u64; 512]) -> OnePart
     requires { ⌜ (size ≤ 512) × (n < 512) × (length (now namers) ≡ 512) ⌝ }
-    ensures { λ r. ⌜ PartAnswer (now (s .entry)) (now (namers .entry)) (now (namers .exit)) (run (kidsOn size n p) at (drop at (now (s .entry)))) r ⌝ }
+    ensures { λ r. ⌜ PartAnswer (now (s .entry)) (now (namers .entry)) (now (namers .exit))
+        (run (kidsOn size n p) at (drop at (now (s .entry)))) r ⌝ }
 {
     match read_number(s, at) {
         Number::Refused(why) => OnePart::Refused(why, at),
-        Number::Is(many, width) => part_of(p, at, read_kids(s, at + width, size, n, p, many, namers)),
+        Number::Is(many, width) => part_of(
+            p,
+            at,
+            read_kids(s, at + width, size, n, p, many, namers),
+        ),
     }
 }
 
@@ -159,7 +164,14 @@ fn read_part(
     let set = namers[n];
     match read_path(s, at, parent, count, n, set) {
         Number::Refused(why) => OnePart::Refused(why, at),
-        Number::Is(p, width) => read_kid_count(s, at + width, size, (n % 512) as u32, (p % 256) as u8, namers),
+        Number::Is(p, width) => read_kid_count(
+            s,
+            at + width,
+            size,
+            (n % 512) as u32,
+            (p % 256) as u8,
+            namers,
+        ),
     }
 }
 
@@ -227,7 +239,11 @@ pub(crate) fn read_document(
         Number::Refused(why) => Listed::Refused(why, 0),
         Number::Is(size, width) => {
             let many = wide_number(size);
-            to_end(s, many, read_parts(s, width, parent, count, many, path, place))
+            to_end(
+                s,
+                many,
+                read_parts(s, width, parent, count, many, path, place),
+            )
         }
     }
 }

@@ -5,7 +5,6 @@ ghost use mathlib.Core.List.{List, [], _∷_};
 ghost use lib.ListN.{length, getD, replicate};
 ghost use Rattle.documents.specs.Reading.{kidsFrom, kidsAt};
 ghost use Rattle.documents.specs.Held.{setAt, heldAmong, Laid, Linked};
-
 use files::number::Number;
 use files::number::read_number;
 use files::number::wide;
@@ -65,9 +64,10 @@ pub(crate) fn hold_all(
     first: &mut [u16; 256],
     next: &mut [u16; 512],
 )
-    requires { ⌜ (count ≤ 512) × Laid (now s) (now path) (now place) count 
+    requires { ⌜ (count ≤ 512) × Laid (now s) (now path) (now place) count
         × (length (now sets) ≡ 512) × (now first ≡ replicate 256 512) × (length (now next) ≡ 512) ⌝ }
-    ensures { λ _. ⌜ Linked (now (s .entry)) (now (path .entry)) (now (place .entry)) count 0 (now (sets .exit)) (now (first .exit)) (now (next .exit)) ⌝ }
+    ensures { λ _. ⌜ Linked (now (s .entry)) (now (path .entry)) (now (place .entry)) count 0 (now (sets .exit)) (now (first .exit))
+        (now (next .exit)) ⌝ }
 {
     let mut n = count;
     while 0 < n {

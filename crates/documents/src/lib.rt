@@ -1,5 +1,5 @@
 // Paths and documents: what obeying means, and checking a document.
 pub mod check;
 pub mod context;
-pub mod document;
+mod document;
 mod held;

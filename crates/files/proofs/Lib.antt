@@ -1,7 +1,6 @@
 -- The crate's laws.
 pub mod Collect
 pub mod Depths
-pub mod Examples
 pub mod FileParts
 pub mod FileSizes
 pub mod Formats

@@ -1,8 +1,9 @@
 -- Laws of numbers stored in a lent buffer: their size, their bytes one after the other, and the buffer after all of them.
-use Prim.Native.Nat.{ℕ, suc, _+_, _/_, _%_, _<_, _≤_}
+use Prim.Native.Nat.{ℕ, zero, suc, _+_, _/_, _%_, _<_, _≤_}
 use mathlib.Core.Path.{_≡_, refl, sym, ap, _∙_}
 use mathlib.Core.List.{List, [], _∷_, _++_}
 use native.Mathlib.Nat.{add-zero}
+use native.Mathlib.Decide.{decLt}
 use native.Mathlib.Omega.{arith}
 use native.Mathlib.Numerals.{add-one}
 use lib.ListN.{length, getD, drop, set, length-append, length-set, drop-of-length-le}
@@ -46,6 +47,32 @@ pub after-long : (at n : ℕ) → 128 ≤ n → at + 2 ≡ at + length (bytesOf 
 after-long at n h = ap (λ (k : ℕ). at + k) (size-long n h)
 
 pub ruleset store-laws = (first-fits, long-fits, second-fits, store-short, store-long, after-short, after-long)
+
+-- a store past the end changes nothing
+set-past : (l : List ℕ) (i v : ℕ) → length l ≤ i → set l i v ≡ l
+set-past [] i v h = refl
+set-past (x ∷ l) zero v h = absurd (omega arith)
+set-past (x ∷ l) (suc i) v h = ap (λ (r : List ℕ). x ∷ r) (set-past l i v (omega arith))
+
+-- a number's bytes stored one by one, as far as the buffer goes
+module _ (l : List ℕ) (at n : ℕ) where
+  pub stored-none : length l ≤ at → l ≡ sets l at (bytesOf n)
+  stored-none h = pick (decLt n 128)
+    where
+      pick : Dec (n < 128) → l ≡ sets l at (bytesOf n)
+      pick (yes k) = sym (set-past l at n h) ∙ store-short l at n k
+      pick (no k) =
+          sym (set-past l (at + 1) (n / 128) (omega arith) ∙ refl)
+          ∙ ap (λ (r : List ℕ). set r (at + 1) (n / 128)) (sym (set-past l at (128 + n % 128) h))
+          ∙ store-long l at n (omega arith)
+
+  pub stored-first : (v : ℕ) → 128 ≤ n → v ≡ 128 + n % 128 → length (set l at v) ≤ at + 1 → set l at v ≡ sets l at (bytesOf n)
+  stored-first v h e k =
+      sym (set-past (set l at v) (at + 1) (n / 128) k)
+      ∙ ap (λ (x : ℕ). set (set l at x) (at + 1) (n / 128)) e
+      ∙ store-long l at n h
+
+pub ruleset stored-laws = (store-short, store-long, stored-none, stored-first)
 
 -- one run of stores after another
 pub sets-append : (xs ys l : List ℕ) (i : ℕ) → sets l i (xs ++ ys) ≡ sets (sets l i xs) (i + length xs) ys

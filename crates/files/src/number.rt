@@ -1,5 +1,5 @@
 // Numbers in groups of seven bits, low group first, in at most two bytes.
-ghost use Prim.Native.Nat.{ℕ, _+_, _≤_, _<_};
+ghost use Prim.Native.Nat.{ℕ, _+_, _%_, _≤_, _<_};
 ghost use mathlib.Core.Path.{_≡_};
 ghost use lib.ListN.{length, drop};
 ghost use lib.Seq.{sets};
@@ -83,4 +83,22 @@ pub(crate) fn put_number(out: &mut [u8], at: usize, n: u32) -> usize
     out[at] = (128 + n % 128) as u8;
     out[at + 1] = (n / 128) as u8;
     at + 2
+}
+
+// The bytes of the number modulo the limit stored from `at` on, as far as the buffer goes.
+pub fn store_number(out: &mut [u8], at: usize, n: u32)
+    ensures { λ _. ⌜ now (out .exit) ≡ sets (now (out .entry)) at (bytesOf (n % limit)) ⌝ }
+{
+    if at < out.len() {
+        let v = n % 16384;
+        if v < 128 {
+            out[at] = v as u8;
+            return;
+        }
+        out[at] = (128 + v % 128) as u8;
+        let next = at + 1;
+        if next < out.len() {
+            out[next] = (v / 128) as u8;
+        }
+    }
 }

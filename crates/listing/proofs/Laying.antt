@@ -77,7 +77,7 @@ module _ (stage : Stage) (next part left x : ℕ) where
 pub ruleset after-laws = (after-count, after-path, after-none, after-some, after-last, after-child, after-first, after-more)
 
 -- the next number stands after the one that was read
-after-at : (stage : Stage) (next part left x : ℕ) → placeAfter stage next part left x .at ≡ next
+pub after-at : (stage : Stage) (next part left x : ℕ) → placeAfter stage next part left x .at ≡ next
 unfolding placeAfter nextPart
 after-at Count next part left x = refl
 after-at Path next part left x = refl

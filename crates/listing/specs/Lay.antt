@@ -65,6 +65,23 @@ placeAfter Child next part left x = cond (leb left 1) (nextPart next part) (reco
 placeAfter First next part left x = record { at = next; stage = More; part = 0; left = 0 }
 placeAfter More next part left x = record { at = next; stage = More; part = 0; left = 0 }
 
+-- whether no number follows
+unfoldable pub isEnd : List ℕ → Bool
+isEnd [] = true
+isEnd (n ∷ ns) = false
+
+-- the text of numbers one after the other, from a place on
+unfoldable pub textFrom : Place → List ℕ → List ℕ
+textFrom p [] = []
+textFrom p (x ∷ ns) = pieceText (p .stage) (p .part) (p .left) (isEnd ns) x ++ textFrom (placeAfter (p .stage) 0 (p .part) (p .left) x) ns
+
+-- where a document and where evidence begins
+abbrev pub documentStart : Place
+documentStart = record { at = 0; stage = Count; part = 0; left = 0 }
+
+abbrev pub evidenceStart : Place
+evidenceStart = record { at = 0; stage = First; part = 0; left = 0 }
+
 -- a text laid out, and the place after it
 pub record LaidText : Type 0 where
   pub text : List ℕ

@@ -121,7 +121,10 @@ use Rattle.reasoning.specs.Handed.{
   handedEntries,
   handedNumbers,
 }
-use Rattle.reasoning.specs.Examples.{Example, answerTo, examples}
+use Rattle.reasoning.specs.Examples.{Example, readAs, answerTo, examples}
+use Rattle.files.specs.Format.{onTest, onNumber, run, atEnd, runAll}
+use Rattle.files.specs.Number.{twoBytes, secondIn, numberIn}
+use Rattle.files.specs.RuleFile.{between, ruleFile}
 
 -- what answers are computed from: to unfold this is to unfold all of it
 unfoldable pub computing : ℕ
@@ -138,6 +141,6 @@ unfolding leadingZeros trailingZeros bytesOf bytesOfAll bit hasb withPath withou
 computing = 0
 
 -- every example has its answer
-pub examples-hold : map (λ (e : Example). answerTo (e .set) (e .question)) examples ≡ map (λ (e : Example). e .answer) examples
-unfolding answerTo computing
+pub examples-hold : map (λ (e : Example). answerTo (e .question)) examples ≡ map (λ (e : Example). e .answer) examples
+unfolding answerTo readAs computing runAll run atEnd onNumber onTest numberIn secondIn twoBytes ruleFile between
 examples-hold = refl

@@ -6,12 +6,15 @@ pub mod Completeness
 pub mod ConsistencyJoins
 pub mod Cut
 pub mod Decide
+pub mod Emitting
+pub mod EmittingParts
 pub mod Equivalences
 pub mod Evidence
 pub mod EvidenceSize
 pub mod Examples
 pub mod Fill
 pub mod Filling
+pub mod GoalWords
 pub mod Graph
 pub mod Handed
 pub mod HandedBack
@@ -35,6 +38,7 @@ pub mod OneStep
 pub mod Order
 pub mod Pairs
 pub mod Placed
+pub mod Places
 pub mod QuestionJoins
 pub mod Reachable
 pub mod ReadBack
@@ -50,3 +54,4 @@ pub mod ValidFits
 pub mod Walks
 pub mod Writes
 pub mod Written
+pub mod WrittenDocument

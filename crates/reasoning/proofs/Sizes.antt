@@ -79,7 +79,7 @@ sorted-left : {A : Type 0} {Before : A → A → Type 0} (l m : List A) → Sort
 sorted-left [] m s = Sorted.none
 sorted-left (a ∷ l) m (Sorted.next h s) = Sorted.next (λ b k. h b (Memᴰ·append-left m k)) (sorted-left l m s)
 
-each-append : {A B : Type 0} (f : A → List B) (l m : List A) → eachOf f (l ++ m) ≡ eachOf f l ++ eachOf f m
+pub each-append : {A B : Type 0} (f : A → List B) (l m : List A) → eachOf f (l ++ m) ≡ eachOf f l ++ eachOf f m
 unfolding eachOf
 each-append f [] m = refl
 each-append f (a ∷ l) m = ap (λ z. f a ++ z) (each-append f l m) ∙ sym (append-assoc (f a) (eachOf f l) (eachOf f m))

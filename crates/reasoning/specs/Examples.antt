@@ -1,19 +1,22 @@
--- E1 to E11 of 01: rules and a question each, and the answer with all its bytes.
+-- E1 to E12 of 01: rules and a question each, or a file to read, and the answer with all its bytes.
 use Prim.Native.Nat.{ℕ, _+_}
 use mathlib.Core.Bool.{true, false}
 use mathlib.Core.List.{List, [], _∷_}
 use lib.ListN.{length}
+use Rattle.files.specs.Format.{Outcome, got, refused, runAll}
 use Rattle.files.specs.Number.{bytesOfAll}
+use Rattle.files.specs.RuleFile.{ruleFile}
 use Rattle.files.specs.Table.{Path, Rule, RuleSet, parentIn}
 use Rattle.reasoning.specs.Reachable.{reachable}
 use Rattle.reasoning.specs.Decide.{askedIn}
 use Rattle.reasoning.specs.Evidence.{yesb, consistentb, evidenceNumbers, inconsistentNumbers}
 use Rattle.reasoning.specs.Handed.{startConsistency, startNo, handedNumbers}
 
--- whether the rules are consistent with the required paths, or a question: its kind and two paths
+-- whether rules are consistent with their required paths; a question about rules: its kind and two paths; or a file to read
 pub data Question : Type 0 where
-  consistency : Question
-  ask : (kind p q : ℕ) → Question
+  consistency : RuleSet → Question
+  ask : RuleSet → (kind p q : ℕ) → Question
+  file : List ℕ → Question
 
 -- the answer, with the document's or the evidence's bytes
 pub data Answer : Type 0 where
@@ -21,10 +24,17 @@ pub data Answer : Type 0 where
   inconsistentBy : List ℕ → Answer
   yesBy : List ℕ → Answer
   noBy : List ℕ → Answer
+  accepted : RuleSet → Answer
+  refusedAt : (k at : ℕ) → Answer
+
+-- what reading answered
+unfoldable pub readAs : Outcome RuleSet → Answer
+readAs (got set at) = accepted set
+readAs (refused k at) = refusedAt k at
 
 -- the answer computed
-unfoldable pub answerTo : RuleSet → Question → Answer
-answerTo set consistency =
+unfoldable pub answerTo : Question → Answer
+answerTo (consistency set) =
     let parent = parentIn (set .paths) in
     let count = 1 + length (set .paths) in
     let asked = askedIn (set .required) in
@@ -32,7 +42,7 @@ answerTo set consistency =
       | true ↦ consistentBy (bytesOfAll (handedNumbers parent count (reachable parent (set .rules) count) (startConsistency asked)))
       | false ↦ inconsistentBy (bytesOfAll (inconsistentNumbers parent (set .rules) count asked))
     ]
-answerTo set (ask kind p q) =
+answerTo (ask set kind p q) =
     let parent = parentIn (set .paths) in
     let count = 1 + length (set .paths) in
     elim (yesb parent (set .rules) count kind p q) [
@@ -40,10 +50,10 @@ answerTo set (ask kind p q) =
       | false ↦ noBy
           (bytesOfAll (handedNumbers parent count (reachable parent (set .rules) count) (startNo parent (set .rules) count kind p q)))
     ]
+answerTo (file s) = readAs (runAll ruleFile s)
 
--- an example: rules and required paths, what is asked, and its answer
+-- an example: what is asked, and its answer
 pub record Example : Type 0 where
-  pub set : RuleSet
   pub question : Question
   pub answer : Answer
 
@@ -81,42 +91,40 @@ rulesE2 = implies 2 4 ∷ implies 4 3 ∷ excludes 2 3 ∷ []
 abbrev pub listing : List ℕ
 listing = 6 ∷ 0 ∷ 3 ∷ 1 ∷ 2 ∷ 3 ∷ 1 ∷ 1 ∷ 4 ∷ 1 ∷ 1 ∷ 5 ∷ 4 ∷ 0 ∷ 2 ∷ 0 ∷ 3 ∷ 0 ∷ []
 
--- E1 to E11
+-- E1 to E12
 abbrev pub examples : List Example
 examples =
-    record { set = overT [] rulesE1; question = ask 1 2 3; answer = noBy listing }
-    ∷ record { set = overT (2 ∷ []) rulesE2; question = consistency; answer = consistentBy listing }
-    ∷ record { set = overT [] rulesE1; question = ask 1 2 0; answer = yesBy (1 ∷ 2 ∷ 0 ∷ 0 ∷ []) }
+    record { question = ask (overT [] rulesE1) 1 2 3; answer = noBy listing }
+    ∷ record { question = consistency (overT (2 ∷ []) rulesE2); answer = consistentBy listing }
+    ∷ record { question = ask (overT [] rulesE1) 1 2 0; answer = yesBy (1 ∷ 2 ∷ 0 ∷ 0 ∷ []) }
     ∷ record {
-      set = overT [] (implies 2 3 ∷ excludes 2 3 ∷ []);
-      question = ask 1 2 4;
+      question = ask (overT [] (implies 2 3 ∷ excludes 2 3 ∷ [])) 1 2 4;
       answer = yesBy (2 ∷ 2 ∷ 2 ∷ 1 ∷ 0 ∷ 0 ∷ 1 ∷ 1 ∷ []);
     }
     ∷ record {
-      set = overT (2 ∷ 4 ∷ []) (excludes 2 4 ∷ []);
-      question = consistency;
+      question = consistency (overT (2 ∷ 4 ∷ []) (excludes 2 4 ∷ []));
       answer = inconsistentBy (3 ∷ 2 ∷ 4 ∷ 0 ∷ 0 ∷ 0 ∷ 0 ∷ []);
     }
     ∷ record {
-      set = overT (2 ∷ []) (excludes 2 4 ∷ []);
-      question = consistency;
+      question = consistency (overT (2 ∷ []) (excludes 2 4 ∷ []));
       answer = consistentBy (3 ∷ 0 ∷ 1 ∷ 1 ∷ 1 ∷ 1 ∷ 2 ∷ 2 ∷ 0 ∷ []);
     }
     ∷ record {
-      set = overT [] (excludes 2 4 ∷ implies 3 2 ∷ []);
-      question = ask 2 3 4;
+      question = ask (overT [] (excludes 2 4 ∷ implies 3 2 ∷ [])) 2 3 4;
       answer = yesBy (3 ∷ 3 ∷ 4 ∷ 0 ∷ 0 ∷ 1 ∷ 3 ∷ 0 ∷ []);
     }
     ∷ record {
-      set = overT [] (excludes 2 3 ∷ []);
-      question = ask 2 2 4;
+      question = ask (overT [] (excludes 2 3 ∷ [])) 2 2 4;
       answer = noBy (4 ∷ 0 ∷ 2 ∷ 1 ∷ 2 ∷ 1 ∷ 1 ∷ 3 ∷ 4 ∷ 0 ∷ 2 ∷ 0 ∷ []);
     }
     ∷ record {
-      set = overOne (excludes 0 0 ∷ []);
-      question = consistency;
+      question = consistency (overOne (excludes 0 0 ∷ []));
       answer = inconsistentBy (3 ∷ 0 ∷ 0 ∷ 0 ∷ 0 ∷ 0 ∷ 0 ∷ []);
     }
-    ∷ record { set = overOne []; question = consistency; answer = consistentBy (1 ∷ 0 ∷ 0 ∷ []) }
-    ∷ record { set = overT [] (implies 1 2 ∷ []); question = ask 1 3 2; answer = yesBy (1 ∷ 2 ∷ 0 ∷ 1 ∷ []) }
+    ∷ record { question = consistency (overOne []); answer = consistentBy (1 ∷ 0 ∷ 0 ∷ []) }
+    ∷ record { question = ask (overT [] (implies 1 2 ∷ [])) 1 3 2; answer = yesBy (1 ∷ 2 ∷ 0 ∷ 1 ∷ []) }
+    ∷ record { question = file []; answer = refusedAt 1 0 }
+    ∷ record { question = file (128 ∷ []); answer = refusedAt 1 0 }
+    ∷ record { question = file (128 ∷ 0 ∷ []); answer = refusedAt 2 0 }
+    ∷ record { question = file (0 ∷ []); answer = refusedAt 3 0 }
     ∷ []

@@ -1,6 +1,7 @@
 pub mod Arrays
 pub mod Calls
 pub mod Decide
+pub mod Emit
 pub mod Evidence
 pub mod Follows
 pub mod Handed
@@ -12,6 +13,7 @@ pub mod Reachable
 pub mod Required
 pub mod Search
 pub mod Walk
+pub mod Writer
 pub mod Written
 pub mod Examples
 pub mod Graph

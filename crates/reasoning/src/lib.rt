@@ -1,5 +1,7 @@
 // Walks, dead paths, evidence, and the documents handed back.
 pub mod consistency;
+pub(crate) mod document;
+pub(crate) mod goals;
 pub mod question;
 pub(crate) mod reach;
 pub(crate) mod steps;

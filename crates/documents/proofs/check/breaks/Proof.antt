@@ -1,10 +1,6 @@
 use borrow.Author.Needs.{needs}
 use Rattle.documents.proofs.check.breaks.Statement.{statement}
 use Rattle.documents.proofs.check.breaks.Tie as tie
-use Rattle.documents.proofs.check.breaks.Reads as reads
-use Rattle.documents.proofs.check.breaks.Lts as lts
-use Rattle.files.proofs.number.wide.Reads as wide-reads
-use Rattle.files.proofs.sets.has.Reads as has-reads
 use Rattle.documents.proofs.Judging.{breaks-laws}
 
 wide-requires : tie.Need-wide-requires

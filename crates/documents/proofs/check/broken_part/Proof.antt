@@ -1,9 +1,5 @@
 use Rattle.documents.proofs.check.broken_part.Statement.{statement}
 use Rattle.documents.proofs.check.broken_part.Tie as tie
-use Rattle.documents.proofs.check.broken_part.Reads as reads
-use Rattle.documents.proofs.check.broken_part.Lts as lts
-use Rattle.documents.proofs.check.breaks.Reads as breaks-reads
-use Rattle.documents.proofs.check.wide16.Reads as wide16-reads
 use borrow.Author.Needs.{needs}
 use Rattle.documents.proofs.Judging.{AlongSoFar, along-laws}
 use Prim.Native.Nat.{_-_}

@@ -1,8 +1,5 @@
 use Rattle.documents.proofs.check.broken_rule.Statement.{statement}
 use Rattle.documents.proofs.check.broken_rule.Tie as tie
-use Rattle.documents.proofs.check.broken_rule.Reads as reads
-use Rattle.documents.proofs.check.broken_rule.Lts as lts
-use Rattle.documents.proofs.check.rule_broken.Reads as rule-broken-reads
 use borrow.Author.Needs.{needs}
 use Rattle.documents.proofs.Judging.{rules-laws}
 use Prim.Native.Nat.{_-_}
@@ -12,7 +9,9 @@ use Rattle.documents.specs.Reading.{parentAt}
 use Rattle.documents.specs.Held.{brokenAlong}
 
 abbrev Inv-loop : tie.InvT-loop
-Inv-loop kind left right many parent count sets first next r₀ r = brokenAlong (parentAt parent) count sets first next r (rulesFrom kind left right r (many - r)) ≡ brokenAlong (parentAt parent) count sets first next 0 (rulesFrom kind left right 0 many)
+Inv-loop kind left right many parent count sets first next r₀ r =
+    brokenAlong (parentAt parent) count sets first next r (rulesFrom kind left right r (many - r))
+    ≡ brokenAlong (parentAt parent) count sets first next 0 (rulesFrom kind left right 0 many)
 
 abbrev μ-loop : tie.MeasureT-loop
 μ-loop kind left right many parent count sets first next r₀ r = many - r

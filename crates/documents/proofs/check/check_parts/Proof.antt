@@ -5,11 +5,6 @@ use denote.Ref.{now}
 use borrow.Author.Needs.{needs}
 use Rattle.documents.proofs.check.check_parts.Statement.{statement}
 use Rattle.documents.proofs.check.check_parts.Tie as tie
-use Rattle.documents.proofs.check.check_parts.Reads as reads
-use Rattle.documents.proofs.check.check_parts.Lts as lts
-use Rattle.documents.proofs.check.judge.Reads as judge-reads
-use Rattle.documents.proofs.context.parents.Reads as parents-reads
-use Rattle.documents.proofs.document.read_document.Reads as read-document-reads
 use Rattle.documents.proofs.Checks.{parts-laws}
 
 parents-requires : tie.Need-parents-requires
@@ -29,8 +24,8 @@ enum-known-count c = search needs
 
 judge-requires : tie.Need-judge-requires
 judge-requires c κs =
-    let bytes : (i : ℕ) → getD (now (c .before .before .before .before .before .before .before .before .before .before .before .before .before .before .before .args .document)) i 0 < 256 =
-    λ i. omega (arith, c .before .before .before .before .before .before .before .before .before .before .before .before .before .before .shared-slice-known .given i) in
+    let entry = c .before .before .before .before .before .before .before .before .before .before .before .before .before .before in
+    let bytes : (i : ℕ) → getD (now (entry .before .args .document)) i 0 < 256 = λ i. omega (arith, entry .shared-slice-known .given i) in
     search (needs, parts-laws)
 
 returns : tie.Need-returns

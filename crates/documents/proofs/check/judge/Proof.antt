@@ -1,11 +1,6 @@
 use borrow.Author.Needs.{needs}
 use Rattle.documents.proofs.check.judge.Statement.{statement}
 use Rattle.documents.proofs.check.judge.Tie as tie
-use Rattle.documents.proofs.check.judge.Reads as reads
-use Rattle.documents.proofs.check.judge.Lts as lts
-use Rattle.documents.proofs.check.broken_rule.Reads as broken-rule-reads
-use Rattle.documents.proofs.check.verdict.Reads as verdict-reads
-use Rattle.documents.proofs.held.hold_all.Reads as hold-all-reads
 use Rattle.documents.proofs.Judging.{judge-laws}
 
 hold-all-requires : tie.Need-hold-all-requires

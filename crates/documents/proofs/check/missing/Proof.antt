@@ -1,10 +1,6 @@
 use borrow.Author.Needs.{needs}
 use Rattle.documents.proofs.check.missing.Statement.{statement}
 use Rattle.documents.proofs.check.missing.Tie as tie
-use Rattle.documents.proofs.check.missing.Reads as reads
-use Rattle.documents.proofs.check.missing.Lts as lts
-use Rattle.files.proofs.sets.difference.Reads as difference-reads
-use Rattle.files.proofs.sets.lowest.Reads as lowest-reads
 use Rattle.documents.proofs.Judging.{missing-laws}
 
 difference-requires : tie.Need-difference-requires

@@ -1,12 +1,6 @@
 use borrow.Author.Needs.{needs}
 use Rattle.documents.proofs.check.rule_broken.Statement.{statement}
 use Rattle.documents.proofs.check.rule_broken.Tie as tie
-use Rattle.documents.proofs.check.rule_broken.Reads as reads
-use Rattle.documents.proofs.check.rule_broken.Lts as lts
-use Rattle.documents.proofs.check.broken_part.Reads as broken-part-reads
-use Rattle.documents.proofs.check.wide16.Reads as wide16-reads
-use Rattle.documents.proofs.context.context.Reads as context-reads
-use Rattle.files.proofs.number.wide.Reads as wide-reads
 use Rattle.documents.proofs.Judging.{rule-is}
 
 context-requires : tie.Need-context-requires

@@ -1,9 +1,6 @@
 use borrow.Author.Needs.{needs}
 use Rattle.documents.proofs.check.verdict.Statement.{statement}
 use Rattle.documents.proofs.check.verdict.Tie as tie
-use Rattle.documents.proofs.check.verdict.Reads as reads
-use Rattle.documents.proofs.check.verdict.Lts as lts
-use Rattle.documents.proofs.check.missing.Reads as missing-reads
 use Rattle.documents.proofs.Judging.{verdict-laws}
 
 enum-known-found : tie.Need-enum-known-found

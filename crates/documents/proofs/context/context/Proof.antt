@@ -1,10 +1,6 @@
 use borrow.Author.Needs.{needs}
 use Rattle.documents.proofs.context.context.Statement.{statement}
 use Rattle.documents.proofs.context.context.Tie as tie
-use Rattle.documents.proofs.context.context.Reads as reads
-use Rattle.documents.proofs.context.context.Lts as lts
-use Rattle.documents.proofs.context.meet.Reads as meet-reads
-use Rattle.files.proofs.number.wide.Reads as wide-reads
 use Rattle.documents.proofs.Climbing.{context-is}
 
 wide-requires : tie.Need-wide-requires

@@ -1,8 +1,5 @@
 use Rattle.documents.proofs.context.meet.Statement.{statement}
 use Rattle.documents.proofs.context.meet.Tie as tie
-use Rattle.documents.proofs.context.meet.Reads as reads
-use Rattle.documents.proofs.context.meet.Lts as lts
-use Rattle.documents.proofs.context.parent_of.Reads as parent-of-reads
 use borrow.Author.Needs.{needs}
 use Rattle.documents.proofs.Climbing.{meet-laws}
 use mathlib.Core.Path.{_≡_}

@@ -1,9 +1,6 @@
 use borrow.Author.Needs.{needs}
 use Rattle.documents.proofs.context.parent_of.Statement.{statement}
 use Rattle.documents.proofs.context.parent_of.Tie as tie
-use Rattle.documents.proofs.context.parent_of.Reads as reads
-use Rattle.documents.proofs.context.parent_of.Lts as lts
-use Rattle.files.proofs.number.wide.Reads as wide-reads
 use Rattle.documents.proofs.Climbing.{parent-laws}
 
 wide-requires : tie.Need-wide-requires

@@ -1,10 +1,6 @@
 use borrow.Author.Needs.{needs}
 use Rattle.documents.proofs.document.mark.Statement.{statement}
 use Rattle.documents.proofs.document.mark.Tie as tie
-use Rattle.documents.proofs.document.mark.Reads as reads
-use Rattle.documents.proofs.document.mark.Lts as lts
-use Rattle.files.proofs.number.wide.Reads as wide-reads
-use Rattle.files.proofs.sets.with.Reads as with-reads
 use Rattle.documents.proofs.PartReader.{mark-is}
 
 mul-with : tie.Need-mul-with

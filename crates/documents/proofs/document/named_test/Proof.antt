@@ -1,11 +1,6 @@
 use borrow.Author.Needs.{needs}
 use Rattle.documents.proofs.document.named_test.Statement.{statement}
 use Rattle.documents.proofs.document.named_test.Tie as tie
-use Rattle.documents.proofs.document.named_test.Reads as reads
-use Rattle.documents.proofs.document.named_test.Lts as lts
-use Rattle.documents.proofs.context.parent_of.Reads as parent-of-reads
-use Rattle.files.proofs.number.wide.Reads as wide-reads
-use Rattle.files.proofs.sets.with.Reads as with-reads
 use Rattle.documents.proofs.PartReader.{named-laws}
 
 returns : tie.Need-returns

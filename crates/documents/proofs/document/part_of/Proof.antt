@@ -1,8 +1,6 @@
 use borrow.Author.Needs.{needs}
 use Rattle.documents.proofs.document.part_of.Statement.{statement}
 use Rattle.documents.proofs.document.part_of.Tie as tie
-use Rattle.documents.proofs.document.part_of.Reads as reads
-use Rattle.documents.proofs.document.part_of.Lts as lts
 use Rattle.documents.proofs.PartReader.{part-of-laws}
 
 enum-known-end : tie.Need-enum-known-end

@@ -1,9 +1,6 @@
 use borrow.Author.Needs.{needs}
 use Rattle.documents.proofs.document.path_test.Statement.{statement}
 use Rattle.documents.proofs.document.path_test.Tie as tie
-use Rattle.documents.proofs.document.path_test.Reads as reads
-use Rattle.documents.proofs.document.path_test.Lts as lts
-use Rattle.documents.proofs.document.named_test.Reads as named-test-reads
 use Rattle.documents.proofs.PartReader.{path-laws}
 
 returns : tie.Need-returns

@@ -1,12 +1,6 @@
 use borrow.Author.Needs.{needs}
 use Rattle.documents.proofs.document.read_document.Statement.{statement}
 use Rattle.documents.proofs.document.read_document.Tie as tie
-use Rattle.documents.proofs.document.read_document.Reads as reads
-use Rattle.documents.proofs.document.read_document.Lts as lts
-use Rattle.documents.proofs.document.read_parts.Reads as read-parts-reads
-use Rattle.documents.proofs.document.to_end.Reads as to-end-reads
-use Rattle.files.proofs.read.read_between.Reads as read-between-reads
-use Rattle.files.proofs.number.wide_number.Reads as wide-number-reads
 use Rattle.documents.proofs.PartLists.{document-laws}
 
 read-between-requires : tie.Need-read-between-requires

@@ -1,11 +1,6 @@
 use borrow.Author.Needs.{needs}
 use Rattle.documents.proofs.document.read_kid_count.Statement.{statement}
 use Rattle.documents.proofs.document.read_kid_count.Tie as tie
-use Rattle.documents.proofs.document.read_kid_count.Reads as reads
-use Rattle.documents.proofs.document.read_kid_count.Lts as lts
-use Rattle.documents.proofs.document.part_of.Reads as part-of-reads
-use Rattle.documents.proofs.document.read_kids.Reads as read-kids-reads
-use Rattle.files.proofs.number.read_number.Reads as read-number-reads
 use Rattle.documents.proofs.PartReader.{count-laws}
 
 read-number-requires : tie.Need-read-number-requires

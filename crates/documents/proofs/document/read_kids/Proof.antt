@@ -1,10 +1,5 @@
 use Rattle.documents.proofs.document.read_kids.Statement.{statement}
 use Rattle.documents.proofs.document.read_kids.Tie as tie
-use Rattle.documents.proofs.document.read_kids.Reads as reads
-use Rattle.documents.proofs.document.read_kids.Lts as lts
-use Rattle.documents.proofs.document.mark.Reads as mark-reads
-use Rattle.files.proofs.read.read_between.Reads as read-between-reads
-use Rattle.files.proofs.number.wide_number.Reads as wide-number-reads
 use borrow.Author.Needs.{needs}
 use Rattle.documents.proofs.PartReader.{KidsSoFar, kids-laws}
 

@@ -1,10 +1,6 @@
 use borrow.Author.Needs.{needs}
 use Rattle.documents.proofs.document.read_part.Statement.{statement}
 use Rattle.documents.proofs.document.read_part.Tie as tie
-use Rattle.documents.proofs.document.read_part.Reads as reads
-use Rattle.documents.proofs.document.read_part.Lts as lts
-use Rattle.documents.proofs.document.read_kid_count.Reads as read-kid-count-reads
-use Rattle.documents.proofs.document.read_path.Reads as read-path-reads
 use Rattle.documents.proofs.PartReader.{part-laws}
 
 mul-set : tie.Need-mul-set

@@ -1,15 +1,13 @@
 use Rattle.documents.proofs.document.read_parts.Statement.{statement}
 use Rattle.documents.proofs.document.read_parts.Tie as tie
-use Rattle.documents.proofs.document.read_parts.Reads as reads
-use Rattle.documents.proofs.document.read_parts.Lts as lts
-use Rattle.documents.proofs.document.read_part.Reads as read-part-reads
 use borrow.Author.Needs.{needs}
 use Rattle.documents.proofs.PartLists.{PartsSoFar, parts-laws}
 use Prim.Native.Nat.{_-_}
 use Rattle.documents.specs.Reading.{parentAt}
 
 abbrev Inv-loop : tie.InvT-loop
-Inv-loop s at parent count size path₀ place₀ namers₀ next₀ n₀ path place namers next n = PartsSoFar s (parentAt parent) count size at path place namers next n
+Inv-loop s at parent count size path₀ place₀ namers₀ next₀ n₀ path place namers next n =
+    PartsSoFar s (parentAt parent) count size at path place namers next n
 
 abbrev μ-loop : tie.MeasureT-loop
 μ-loop s at parent count size path₀ place₀ namers₀ next₀ n₀ path place namers next n = size - n

@@ -1,11 +1,6 @@
 use borrow.Author.Needs.{needs}
 use Rattle.documents.proofs.document.read_path.Statement.{statement}
 use Rattle.documents.proofs.document.read_path.Tie as tie
-use Rattle.documents.proofs.document.read_path.Reads as reads
-use Rattle.documents.proofs.document.read_path.Lts as lts
-use Rattle.documents.proofs.document.path_test.Reads as path-test-reads
-use Rattle.files.proofs.number.read_number.Reads as read-number-reads
-use Rattle.files.proofs.read.passed.Reads as passed-reads
 use Rattle.files.proofs.Reader.{tested-laws}
 
 read-number-requires : tie.Need-read-number-requires

@@ -1,8 +1,6 @@
 use borrow.Author.Needs.{needs}
 use Rattle.documents.proofs.document.to_end.Statement.{statement}
 use Rattle.documents.proofs.document.to_end.Tie as tie
-use Rattle.documents.proofs.document.to_end.Reads as reads
-use Rattle.documents.proofs.document.to_end.Lts as lts
 use Rattle.documents.proofs.PartLists.{end-laws}
 
 enum-known-end : tie.Need-enum-known-end

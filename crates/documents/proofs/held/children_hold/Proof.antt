@@ -1,10 +1,6 @@
 use borrow.Author.Needs.{needs}
 use Rattle.documents.proofs.held.children_hold.Statement.{statement}
 use Rattle.documents.proofs.held.children_hold.Tie as tie
-use Rattle.documents.proofs.held.children_hold.Reads as reads
-use Rattle.documents.proofs.held.children_hold.Lts as lts
-use Rattle.documents.proofs.held.kids_hold.Reads as kids-hold-reads
-use Rattle.files.proofs.number.read_number.Reads as read-number-reads
 use Rattle.documents.proofs.Holding.{children-laws}
 
 read-number-requires : tie.Need-read-number-requires

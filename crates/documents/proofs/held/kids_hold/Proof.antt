@@ -1,11 +1,5 @@
 use Rattle.documents.proofs.held.kids_hold.Statement.{statement}
 use Rattle.documents.proofs.held.kids_hold.Tie as tie
-use Rattle.documents.proofs.held.kids_hold.Reads as reads
-use Rattle.documents.proofs.held.kids_hold.Lts as lts
-use Rattle.documents.proofs.held.set_of.Reads as set-of-reads
-use Rattle.files.proofs.number.read_number.Reads as read-number-reads
-use Rattle.files.proofs.number.wide_number.Reads as wide-number-reads
-use Rattle.files.proofs.sets.union.Reads as union-reads
 use borrow.Author.Needs.{needs}
 use Rattle.documents.proofs.Holding.{hold-laws}
 use mathlib.Core.Path.{_≡_}
@@ -14,7 +8,8 @@ use Rattle.documents.specs.Reading.{kidsFrom}
 use Rattle.documents.specs.Held.{heldAmong}
 
 abbrev Inv-loop : tie.InvT-loop
-Inv-loop s at many sets set₀ next₀ left₀ set next left = union set (heldAmong sets (kidsFrom s next left)) ≡ heldAmong sets (kidsFrom s at many)
+Inv-loop s at many sets set₀ next₀ left₀ set next left =
+    union set (heldAmong sets (kidsFrom s next left)) ≡ heldAmong sets (kidsFrom s at many)
 
 abbrev μ-loop : tie.MeasureT-loop
 μ-loop s at many sets set₀ next₀ left₀ set next left = left

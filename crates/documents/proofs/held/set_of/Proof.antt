@@ -1,8 +1,6 @@
 use borrow.Author.Needs.{needs}
 use Rattle.documents.proofs.held.set_of.Statement.{statement}
 use Rattle.documents.proofs.held.set_of.Tie as tie
-use Rattle.documents.proofs.held.set_of.Reads as reads
-use Rattle.documents.proofs.held.set_of.Lts as lts
 use Rattle.documents.proofs.Holding.{set-laws}
 
 mul-result : tie.Need-mul-result

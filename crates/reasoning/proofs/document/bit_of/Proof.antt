@@ -1,0 +1,19 @@
+use borrow.Author.Needs.{needs}
+use Rattle.reasoning.proofs.document.bit_of.Statement.{statement}
+use Rattle.reasoning.proofs.document.bit_of.Tie as tie
+use Rattle.reasoning.proofs.document.bit_of.Reads as reads
+use Rattle.reasoning.proofs.document.bit_of.Lts as lts
+use Rattle.files.proofs.sets.has.Reads as has-reads
+use Rattle.reasoning.proofs.Places.{bit-laws}
+
+has-requires : tie.Need-has-requires
+has-requires c κs = search needs
+
+returns : tie.Need-returns
+returns c = search (needs, bit-laws)
+
+returns-2 : tie.Need-returns-2
+returns-2 c = search (needs, bit-laws)
+
+pub bit-of-spec : {M : Type 1} → statement M
+bit-of-spec = tie.close (tie.spec has-requires returns returns-2)

@@ -1,0 +1,39 @@
+use borrow.Author.Needs.{needs}
+use Rattle.reasoning.proofs.document.count_kids_under.Statement.{statement}
+use Rattle.reasoning.proofs.document.count_kids_under.Tie as tie
+use Rattle.reasoning.proofs.document.count_kids_under.Reads as reads
+use Rattle.reasoning.proofs.document.count_kids_under.Lts as lts
+use Rattle.files.proofs.sets.common.Reads as common-reads
+use Rattle.files.proofs.sets.size.Reads as size-reads
+use Rattle.reasoning.proofs.document.count_whole.Reads as count-whole-reads
+use Rattle.reasoning.proofs.steps.subtree.Reads as subtree-reads
+use Rattle.reasoning.proofs.EmittingParts.{under-counted}
+
+subtree-requires : tie.Need-subtree-requires
+subtree-requires c κs = search needs
+
+common-requires : tie.Need-common-requires
+common-requires c κs = search needs
+
+count-whole-requires : tie.Need-count-whole-requires
+count-whole-requires c κs = search needs
+
+size-requires : tie.Need-size-requires
+size-requires c κs = search needs
+
+add-result : tie.Need-add-result
+add-result c = search needs
+
+returns : tie.Need-returns
+returns c = search (needs, under-counted)
+
+pub count-kids-under-spec : {M : Type 1} → statement M
+count-kids-under-spec =
+    tie.close
+    (tie.spec
+    subtree-requires
+    common-requires
+    count-whole-requires
+    size-requires
+    add-result
+    returns)

@@ -1,0 +1,19 @@
+use borrow.Author.Needs.{needs}
+use Rattle.reasoning.proofs.document.count_whole.Statement.{statement}
+use Rattle.reasoning.proofs.document.count_whole.Tie as tie
+use Rattle.reasoning.proofs.document.count_whole.Reads as reads
+use Rattle.reasoning.proofs.document.count_whole.Lts as lts
+use Rattle.reasoning.proofs.document.bit_of.Reads as bit-of-reads
+use Rattle.reasoning.proofs.EmittingParts.{counted-laws}
+
+bit-of-requires : tie.Need-bit-of-requires
+bit-of-requires c κs = search needs
+
+returns : tie.Need-returns
+returns c = search (needs, counted-laws)
+
+returns-2 : tie.Need-returns-2
+returns-2 c = search (needs, counted-laws)
+
+pub count-whole-spec : {M : Type 1} → statement M
+count-whole-spec = tie.close (tie.spec bit-of-requires returns returns-2)

@@ -1,0 +1,49 @@
+use borrow.Author.Needs.{needs}
+use Rattle.reasoning.proofs.document.emit.Statement.{statement}
+use Rattle.reasoning.proofs.document.emit.Tie as tie
+use Rattle.reasoning.proofs.document.emit.Reads as reads
+use Rattle.reasoning.proofs.document.emit.Lts as lts
+use Rattle.files.proofs.number.size_of.Reads as size-of-reads
+use Rattle.files.proofs.number.store_number.Reads as store-number-reads
+use Rattle.reasoning.proofs.Emitting.{number-laws}
+
+cast-v : tie.Need-cast-v
+cast-v c = search needs
+
+store-number-requires : tie.Need-store-number-requires
+store-number-requires c κs = search needs
+
+size-of-requires : tie.Need-size-of-requires
+size-of-requires c κs = search needs
+
+add-result : tie.Need-add-result
+add-result c = search needs
+
+same-length : tie.Need-same-length
+same-length c = search needs
+
+returns : tie.Need-returns
+returns c = search (needs, number-laws)
+
+size-of-requires-2 : tie.Need-size-of-requires-2
+size-of-requires-2 c κs = search needs
+
+add-result-2 : tie.Need-add-result-2
+add-result-2 c = search needs
+
+returns-2 : tie.Need-returns-2
+returns-2 c = search (needs, number-laws)
+
+pub emit-spec : {M : Type 1} → statement M
+emit-spec =
+    tie.close
+    (tie.spec
+    cast-v
+    store-number-requires
+    size-of-requires
+    add-result
+    same-length
+    returns
+    size-of-requires-2
+    add-result-2
+    returns-2)

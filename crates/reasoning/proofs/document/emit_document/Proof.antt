@@ -1,0 +1,23 @@
+use borrow.Author.Needs.{needs}
+use Rattle.reasoning.proofs.document.emit_document.Statement.{statement}
+use Rattle.reasoning.proofs.document.emit_document.Tie as tie
+use Rattle.reasoning.proofs.document.emit_document.Reads as reads
+use Rattle.reasoning.proofs.document.emit_document.Lts as lts
+use Rattle.reasoning.proofs.document.emit.Reads as emit-reads
+use Rattle.reasoning.proofs.document.emit_layers.Reads as emit-layers-reads
+use Rattle.reasoning.proofs.WrittenDocument.{head-laws}
+
+emit-requires : tie.Need-emit-requires
+emit-requires c κs = search (needs, head-laws)
+
+emit-layers-requires : tie.Need-emit-layers-requires
+emit-layers-requires c κs = search (needs, head-laws)
+
+same-length : tie.Need-same-length
+same-length c = search needs
+
+returns : tie.Need-returns
+returns c = search (needs, head-laws)
+
+pub emit-document-spec : {M : Type 1} → statement M
+emit-document-spec = tie.close (tie.spec emit-requires emit-layers-requires same-length returns)

@@ -1,0 +1,39 @@
+use Rattle.reasoning.proofs.document.emit_kids_under.Statement.{statement}
+use Rattle.reasoning.proofs.document.emit_kids_under.Tie as tie
+use Rattle.reasoning.proofs.document.emit_kids_under.Reads as reads
+use Rattle.reasoning.proofs.document.emit_kids_under.Lts as lts
+use Rattle.files.proofs.sets.common.Reads as common-reads
+use Rattle.reasoning.proofs.document.emit_goals.Reads as emit-goals-reads
+use Rattle.reasoning.proofs.document.emit_whole.Reads as emit-whole-reads
+use Rattle.reasoning.proofs.steps.subtree.Reads as subtree-reads
+use borrow.Author.Needs.{needs}
+use Rattle.reasoning.proofs.Emitting.{under-laws}
+
+subtree-requires : tie.Need-subtree-requires
+subtree-requires c κs = search (needs, under-laws)
+
+common-requires : tie.Need-common-requires
+common-requires c κs = search (needs, under-laws)
+
+emit-whole-requires : tie.Need-emit-whole-requires
+emit-whole-requires c κs = search (needs, under-laws)
+
+emit-goals-requires : tie.Need-emit-goals-requires
+emit-goals-requires c κs = search (needs, under-laws)
+
+same-length : tie.Need-same-length
+same-length c = search (needs, under-laws)
+
+returns : tie.Need-returns
+returns c = search (needs, under-laws)
+
+pub emit-kids-under-spec : {M : Type 1} → statement M
+emit-kids-under-spec =
+    tie.close
+    (tie.spec
+    subtree-requires
+    common-requires
+    emit-whole-requires
+    emit-goals-requires
+    same-length
+    returns)

@@ -1,0 +1,38 @@
+use borrow.Author.Needs.{needs}
+use Rattle.reasoning.proofs.document.emit_part.Statement.{statement}
+use Rattle.reasoning.proofs.document.emit_part.Tie as tie
+use Rattle.reasoning.proofs.document.emit_part.Reads as reads
+use Rattle.reasoning.proofs.document.emit_part.Lts as lts
+use Rattle.reasoning.proofs.document.count_kids.Reads as count-kids-reads
+use Rattle.reasoning.proofs.document.emit.Reads as emit-reads
+use Rattle.reasoning.proofs.document.emit_kids.Reads as emit-kids-reads
+use Rattle.reasoning.proofs.EmittingParts.{part-laws}
+
+count-kids-requires : tie.Need-count-kids-requires
+count-kids-requires c κs = search needs
+
+emit-requires : tie.Need-emit-requires
+emit-requires c κs = search (needs, part-laws)
+
+emit-requires-2 : tie.Need-emit-requires-2
+emit-requires-2 c κs = search (needs, part-laws)
+
+emit-kids-requires : tie.Need-emit-kids-requires
+emit-kids-requires c κs = search (needs, part-laws)
+
+same-length : tie.Need-same-length
+same-length c = search needs
+
+returns : tie.Need-returns
+returns c = search (needs, part-laws)
+
+pub emit-part-spec : {M : Type 1} → statement M
+emit-part-spec =
+    tie.close
+    (tie.spec
+    count-kids-requires
+    emit-requires
+    emit-requires-2
+    emit-kids-requires
+    same-length
+    returns)

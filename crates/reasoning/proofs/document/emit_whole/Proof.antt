@@ -1,0 +1,35 @@
+use borrow.Author.Needs.{needs}
+use Rattle.reasoning.proofs.document.emit_whole.Statement.{statement}
+use Rattle.reasoning.proofs.document.emit_whole.Tie as tie
+use Rattle.reasoning.proofs.document.emit_whole.Reads as reads
+use Rattle.reasoning.proofs.document.emit_whole.Lts as lts
+use Rattle.files.proofs.sets.has.Reads as has-reads
+use Rattle.reasoning.proofs.document.emit.Reads as emit-reads
+use Rattle.reasoning.proofs.document.place_at.Reads as place-at-reads
+use Rattle.reasoning.proofs.Emitting.{whole-number-laws}
+
+has-requires : tie.Need-has-requires
+has-requires c κs = search needs
+
+place-at-requires : tie.Need-place-at-requires
+place-at-requires c κs = search needs
+
+emit-requires : tie.Need-emit-requires
+emit-requires c κs = search (needs, whole-number-laws)
+
+same-length : tie.Need-same-length
+same-length c = search needs
+
+returns : tie.Need-returns
+returns c = search (needs, whole-number-laws)
+
+returns-2 : tie.Need-returns-2
+returns-2 c = search (needs, whole-number-laws)
+
+returns-3 : tie.Need-returns-3
+returns-3 c = search (needs, whole-number-laws)
+
+pub emit-whole-spec : {M : Type 1} → statement M
+emit-whole-spec =
+    tie.close
+    (tie.spec has-requires place-at-requires emit-requires same-length returns returns-2 returns-3)

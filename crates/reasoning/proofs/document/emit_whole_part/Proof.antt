@@ -1,0 +1,32 @@
+use borrow.Author.Needs.{needs}
+use Rattle.reasoning.proofs.document.emit_whole_part.Statement.{statement}
+use Rattle.reasoning.proofs.document.emit_whole_part.Tie as tie
+use Rattle.reasoning.proofs.document.emit_whole_part.Reads as reads
+use Rattle.reasoning.proofs.document.emit_whole_part.Lts as lts
+use Rattle.files.proofs.sets.has.Reads as has-reads
+use Rattle.reasoning.proofs.document.emit_part.Reads as emit-part-reads
+use Rattle.reasoning.proofs.goals.all_kids.Reads as all-kids-reads
+use Rattle.reasoning.proofs.EmittingParts.{all-laws}
+
+has-requires : tie.Need-has-requires
+has-requires c κs = search needs
+
+all-kids-requires : tie.Need-all-kids-requires
+all-kids-requires c κs = search needs
+
+emit-part-requires : tie.Need-emit-part-requires
+emit-part-requires c κs = search (needs, all-laws)
+
+same-length : tie.Need-same-length
+same-length c = search needs
+
+returns : tie.Need-returns
+returns c = search (needs, all-laws)
+
+returns-2 : tie.Need-returns-2
+returns-2 c = search (needs, all-laws)
+
+pub emit-whole-part-spec : {M : Type 1} → statement M
+emit-whole-part-spec =
+    tie.close
+    (tie.spec has-requires all-kids-requires emit-part-requires same-length returns returns-2)

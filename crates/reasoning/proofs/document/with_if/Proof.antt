@@ -1,0 +1,19 @@
+use borrow.Author.Needs.{needs}
+use Rattle.reasoning.proofs.document.with_if.Statement.{statement}
+use Rattle.reasoning.proofs.document.with_if.Tie as tie
+use Rattle.reasoning.proofs.document.with_if.Reads as reads
+use Rattle.reasoning.proofs.document.with_if.Lts as lts
+use Rattle.files.proofs.sets.with.Reads as with-reads
+use Rattle.reasoning.proofs.Places.{with-laws}
+
+with-requires : tie.Need-with-requires
+with-requires c κs = search needs
+
+returns : tie.Need-returns
+returns c = search (needs, with-laws)
+
+returns-2 : tie.Need-returns-2
+returns-2 c = search (needs, with-laws)
+
+pub with-if-spec : {M : Type 1} → statement M
+with-if-spec = tie.close (tie.spec with-requires returns returns-2)

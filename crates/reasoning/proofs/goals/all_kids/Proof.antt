@@ -1,0 +1,16 @@
+use borrow.Author.Needs.{needs}
+use Rattle.reasoning.proofs.goals.all_kids.Statement.{statement}
+use Rattle.reasoning.proofs.goals.all_kids.Tie as tie
+use Rattle.reasoning.proofs.goals.all_kids.Reads as reads
+use Rattle.reasoning.proofs.goals.all_kids.Lts as lts
+use Rattle.reasoning.proofs.goals.kid_word.Reads as kid-word-reads
+use Rattle.reasoning.proofs.GoalWords.{kid-laws}
+
+kid-word-requires : tie.Need-kid-word-requires
+kid-word-requires c κs = search needs
+
+returns : tie.Need-returns
+returns c = search (needs, kid-laws)
+
+pub all-kids-spec : {M : Type 1} → statement M
+all-kids-spec = tie.close (tie.spec kid-word-requires returns)

@@ -1,0 +1,20 @@
+use borrow.Author.Needs.{needs}
+use Rattle.reasoning.proofs.goals.covered.Statement.{statement}
+use Rattle.reasoning.proofs.goals.covered.Tie as tie
+use Rattle.reasoning.proofs.goals.covered.Reads as reads
+use Rattle.reasoning.proofs.goals.covered.Lts as lts
+use Rattle.reasoning.proofs.goals.towards.Reads as towards-reads
+use Rattle.reasoning.proofs.goals.word_for.Reads as word-for-reads
+use Rattle.reasoning.proofs.GoalWords.{kid-laws}
+
+towards-requires : tie.Need-towards-requires
+towards-requires c κs = search needs
+
+word-for-requires : tie.Need-word-for-requires
+word-for-requires c κs = search needs
+
+returns : tie.Need-returns
+returns c = search (needs, kid-laws)
+
+pub covered-spec : {M : Type 1} → statement M
+covered-spec = tie.close (tie.spec towards-requires word-for-requires returns)

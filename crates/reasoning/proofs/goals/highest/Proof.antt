@@ -1,0 +1,19 @@
+use Rattle.reasoning.proofs.goals.highest.Statement.{statement}
+use Rattle.reasoning.proofs.goals.highest.Tie as tie
+use Rattle.reasoning.proofs.goals.highest.Reads as reads
+use Rattle.reasoning.proofs.goals.highest.Lts as lts
+use borrow.Author.Needs.{needs}
+use native.Mathlib.Omega.{arith}
+use Rattle.reasoning.proofs.GoalWords.{leading-small, highest-reads}
+
+cast-result : tie.Need-cast-result
+cast-result c = omega (arith, leading-small (c .args .w) (c .pre) (c .fits .w .fits))
+
+sub-result : tie.Need-sub-result
+sub-result c = omega (arith, leading-small (c .args .w) (c .pre) (c .fits .w .fits))
+
+returns : tie.Need-returns
+returns c = (highest-reads (c .args .w), omega arith)
+
+pub highest-spec : {M : Type 1} → statement M
+highest-spec = tie.close (tie.spec cast-result sub-result returns)

@@ -1,0 +1,38 @@
+use borrow.Author.Needs.{needs}
+use Rattle.reasoning.proofs.goals.kids_at.Statement.{statement}
+use Rattle.reasoning.proofs.goals.kids_at.Tie as tie
+use Rattle.reasoning.proofs.goals.kids_at.Reads as reads
+use Rattle.reasoning.proofs.goals.kids_at.Lts as lts
+use Rattle.files.proofs.sets.has.Reads as has-reads
+use Rattle.reasoning.proofs.goals.all_kids.Reads as all-kids-reads
+use Rattle.reasoning.proofs.goals.gather_kids.Reads as gather-kids-reads
+use Rattle.reasoning.proofs.GoalWords.{whole-laws}
+
+has-requires : tie.Need-has-requires
+has-requires c κs = search needs
+
+all-kids-requires : tie.Need-all-kids-requires
+all-kids-requires c κs = search needs
+
+gather-kids-requires : tie.Need-gather-kids-requires
+gather-kids-requires c κs = search needs
+
+returns : tie.Need-returns
+returns c = search (needs, whole-laws)
+
+gather-kids-requires-2 : tie.Need-gather-kids-requires-2
+gather-kids-requires-2 c κs = search needs
+
+returns-2 : tie.Need-returns-2
+returns-2 c = search (needs, whole-laws)
+
+pub kids-at-spec : {M : Type 1} → statement M
+kids-at-spec =
+    tie.close
+    (tie.spec
+    has-requires
+    all-kids-requires
+    gather-kids-requires
+    returns
+    gather-kids-requires-2
+    returns-2)

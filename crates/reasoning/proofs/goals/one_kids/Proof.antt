@@ -1,0 +1,20 @@
+use borrow.Author.Needs.{needs}
+use Rattle.reasoning.proofs.goals.one_kids.Statement.{statement}
+use Rattle.reasoning.proofs.goals.one_kids.Tie as tie
+use Rattle.reasoning.proofs.goals.one_kids.Reads as reads
+use Rattle.reasoning.proofs.goals.one_kids.Lts as lts
+use Rattle.files.proofs.sets.with.Reads as with-reads
+use Rattle.reasoning.proofs.goals.kid_word.Reads as kid-word-reads
+use Rattle.reasoning.proofs.GoalWords.{kid-laws}
+
+with-requires : tie.Need-with-requires
+with-requires c κs = search needs
+
+kid-word-requires : tie.Need-kid-word-requires
+kid-word-requires c κs = search needs
+
+returns : tie.Need-returns
+returns c = search (needs, kid-laws)
+
+pub one-kids-spec : {M : Type 1} → statement M
+one-kids-spec = tie.close (tie.spec with-requires kid-word-requires returns)

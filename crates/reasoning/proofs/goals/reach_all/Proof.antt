@@ -1,0 +1,59 @@
+use Rattle.reasoning.proofs.goals.reach_all.Statement.{statement}
+use Rattle.reasoning.proofs.goals.reach_all.Tie as tie
+use Rattle.reasoning.proofs.goals.reach_all.Reads as reads
+use Rattle.reasoning.proofs.goals.reach_all.Lts as lts
+use Rattle.files.proofs.sets.lowest.Reads as lowest-reads
+use Rattle.files.proofs.sets.union.Reads as union-reads
+use Rattle.files.proofs.sets.without_lowest.Reads as without-lowest-reads
+use Rattle.reasoning.proofs.goals.word_for.Reads as word-for-reads
+use borrow.Author.Needs.{needs}
+use Prim.Native.Nat.{_^_, _<_}
+use mathlib.Core.Path.{_≡_}
+use Rattle.reasoning.specs.Handed.{gather}
+use Rattle.reasoning.specs.Writer.{wordFor}
+use Rattle.reasoning.proofs.GoalWords.{gather-laws}
+
+abbrev Inv-loop : tie.InvT-loop
+Inv-loop depth table count c goals left₀ all₀ left all = (left < 2 ^ 64) × (gather (wordFor depth table count c) 64 left all ≡ gather (wordFor depth table count c) 64 goals 0)
+
+abbrev μ-loop : tie.MeasureT-loop
+μ-loop depth table count c goals left₀ all₀ left all = left
+
+loop-holds : tie.Need-loop-holds Inv-loop μ-loop
+loop-holds c = search (needs, gather-laws)
+
+lowest-requires : tie.Need-lowest-requires Inv-loop μ-loop
+lowest-requires c κs = search (needs, gather-laws)
+
+word-for-requires : tie.Need-word-for-requires Inv-loop μ-loop
+word-for-requires c κs = search (needs, gather-laws)
+
+union-requires : tie.Need-union-requires Inv-loop μ-loop
+union-requires c κs = search (needs, gather-laws)
+
+without-lowest-requires : tie.Need-without-lowest-requires Inv-loop μ-loop
+without-lowest-requires c κs = search (needs, gather-laws)
+
+loop-less : tie.Need-loop-less Inv-loop μ-loop
+loop-less c = search (needs, gather-laws)
+
+loop-again : tie.Need-loop-again Inv-loop μ-loop
+loop-again c = search (needs, gather-laws)
+
+returns : tie.Need-returns Inv-loop μ-loop
+returns c = search (needs, gather-laws)
+
+pub reach-all-spec : {M : Type 1} → statement M
+reach-all-spec =
+    tie.close
+    (tie.spec
+    Inv-loop
+    μ-loop
+    loop-holds
+    lowest-requires
+    word-for-requires
+    union-requires
+    without-lowest-requires
+    loop-less
+    loop-again
+    returns)

@@ -1,0 +1,16 @@
+use borrow.Author.Needs.{needs}
+use Rattle.reasoning.proofs.goals.several.Statement.{statement}
+use Rattle.reasoning.proofs.goals.several.Tie as tie
+use Rattle.reasoning.proofs.goals.several.Reads as reads
+use Rattle.reasoning.proofs.goals.several.Lts as lts
+use Rattle.files.proofs.sets.without_lowest.Reads as without-lowest-reads
+use Rattle.reasoning.proofs.GoalWords.{chain-laws}
+
+without-lowest-requires : tie.Need-without-lowest-requires
+without-lowest-requires c κs = search needs
+
+returns : tie.Need-returns
+returns c = search (needs, chain-laws)
+
+pub several-spec : {M : Type 1} → statement M
+several-spec = tie.close (tie.spec without-lowest-requires returns)

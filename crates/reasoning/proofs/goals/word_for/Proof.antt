@@ -1,0 +1,22 @@
+use Rattle.reasoning.proofs.goals.word_for.Statement.{statement}
+use Rattle.reasoning.proofs.goals.word_for.Tie as tie
+use Rattle.reasoning.proofs.goals.word_for.Reads as reads
+use Rattle.reasoning.proofs.goals.word_for.Lts as lts
+use Rattle.reasoning.proofs.reach.reach.Reads as reach-reads
+use borrow.Author.Needs.{needs}
+use Rattle.reasoning.proofs.GoalWords.{word-laws}
+
+reach-requires : tie.Need-reach-requires
+reach-requires c κs = search (needs, word-laws)
+
+returns : tie.Need-returns
+returns c = search (needs, word-laws)
+
+returns-2 : tie.Need-returns-2
+returns-2 c = search (needs, word-laws)
+
+returns-3 : tie.Need-returns-3
+returns-3 c = search (needs, word-laws)
+
+pub word-for-spec : {M : Type 1} → statement M
+word-for-spec = tie.close (tie.spec reach-requires returns returns-2 returns-3)
