@@ -39,6 +39,7 @@ pub mod Sorted
 pub mod Soundness
 pub mod Stepping
 pub mod Walks
+pub mod Writable
 pub mod Writes
 pub mod Written
 pub mod WrittenDocument

@@ -1,5 +1,6 @@
 // Walks, dead paths, evidence, and the documents handed back.
 pub(crate) mod document;
 pub(crate) mod goals;
+pub(crate) mod numbering;
 pub(crate) mod reach;
 pub(crate) mod steps;

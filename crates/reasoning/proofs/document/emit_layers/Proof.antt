@@ -1,9 +1,5 @@
 use Rattle.reasoning.proofs.document.emit_layers.Statement.{statement}
 use Rattle.reasoning.proofs.document.emit_layers.Tie as tie
-use Rattle.reasoning.proofs.document.emit_layers.Reads as reads
-use Rattle.reasoning.proofs.document.emit_layers.Lts as lts
-use Rattle.reasoning.proofs.document.emit_layer.Reads as emit-layer-reads
-use Rattle.reasoning.proofs.document.layer_of.Reads as layer-of-reads
 use borrow.Author.Needs.{needs}
 use Prim.Native.Nat.{_-_, _≤_}
 use mathlib.Core.Path.{_≡_}

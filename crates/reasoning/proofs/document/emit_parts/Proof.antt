@@ -1,10 +1,6 @@
 use borrow.Author.Needs.{needs}
 use Rattle.reasoning.proofs.document.emit_parts.Statement.{statement}
 use Rattle.reasoning.proofs.document.emit_parts.Tie as tie
-use Rattle.reasoning.proofs.document.emit_parts.Reads as reads
-use Rattle.reasoning.proofs.document.emit_parts.Lts as lts
-use Rattle.reasoning.proofs.document.emit_ones.Reads as emit-ones-reads
-use Rattle.reasoning.proofs.document.emit_whole_part.Reads as emit-whole-part-reads
 use Rattle.reasoning.proofs.EmittingParts.{path-second, path-laws}
 
 emit-whole-part-requires : tie.Need-emit-whole-part-requires

@@ -1,10 +1,6 @@
 use borrow.Author.Needs.{needs}
 use Rattle.reasoning.proofs.goals.covered.Statement.{statement}
 use Rattle.reasoning.proofs.goals.covered.Tie as tie
-use Rattle.reasoning.proofs.goals.covered.Reads as reads
-use Rattle.reasoning.proofs.goals.covered.Lts as lts
-use Rattle.reasoning.proofs.goals.towards.Reads as towards-reads
-use Rattle.reasoning.proofs.goals.word_for.Reads as word-for-reads
 use Rattle.reasoning.proofs.GoalWords.{kid-laws}
 
 towards-requires : tie.Need-towards-requires

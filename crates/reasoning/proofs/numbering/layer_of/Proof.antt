@@ -1,9 +1,5 @@
-use Rattle.reasoning.proofs.document.layer_of.Statement.{statement}
-use Rattle.reasoning.proofs.document.layer_of.Tie as tie
-use Rattle.reasoning.proofs.document.layer_of.Reads as reads
-use Rattle.reasoning.proofs.document.layer_of.Lts as lts
-use Rattle.reasoning.proofs.document.with_if.Reads as with-if-reads
-use Rattle.reasoning.proofs.steps.wide.Reads as wide-reads
+use Rattle.reasoning.proofs.numbering.layer_of.Statement.{statement}
+use Rattle.reasoning.proofs.numbering.layer_of.Tie as tie
 use borrow.Author.Needs.{needs}
 use native.Mathlib.Omega.{arith}
 use Prim.Native.Nat.{_-_, _^_, _≤_, _<_}

@@ -1,9 +1,5 @@
-use Rattle.reasoning.proofs.document.child_paths.Statement.{statement}
-use Rattle.reasoning.proofs.document.child_paths.Tie as tie
-use Rattle.reasoning.proofs.document.child_paths.Reads as reads
-use Rattle.reasoning.proofs.document.child_paths.Lts as lts
-use Rattle.reasoning.proofs.document.with_if.Reads as with-if-reads
-use Rattle.reasoning.proofs.steps.parent_of.Reads as parent-of-reads
+use Rattle.reasoning.proofs.numbering.child_paths.Statement.{statement}
+use Rattle.reasoning.proofs.numbering.child_paths.Tie as tie
 use borrow.Author.Needs.{needs}
 use native.Mathlib.Omega.{arith}
 use Prim.Native.Nat.{_-_, _^_, _≤_, _<_}
