@@ -1,17 +1,17 @@
 -- Laws of the goals of parts as the code works them out: look-ups, gathering, children's goals, and the goals on every path.
 use Prim.Native.Nat.{ℕ, zero, suc, _+_, _-_, _^_, _≤_, _<_}
 use mathlib.Core.Path.{_≡_, refl, sym, ap, _∙_, subst}
-use mathlib.Core.Bool.{Bool, true, false, not, _&&_}
+use mathlib.Core.Bool.{Bool, true, false, not}
 use mathlib.Core.List.{List, [], _∷_, _++_, append-assoc, append-nil}
 use native.Mathlib.Omega.{arith}
 use native.Mathlib.Numerals.{add-one}
-use lib.Count.{leadingZeros, leading-le, leading-top}
+use lib.Count.{leadingZeros, leading-top}
 use lib.Dec.{eqb}
 use lib.ListN.{length, getD, set, replicate, length-append}
-use borrow.Author.Tests.{lt-ltb, le-ltb, eq-eqb, ne-eqb, eqb-true, eqb-false}
+use borrow.Author.Tests.{lt-ltb, le-ltb, eq-eqb, ne-eqb, eqb-false}
 use Rattle.files.specs.Rules.{padded}
 use Rattle.files.specs.Sets.{hasb, withPath, withoutPath, union, common, difference, lowest, withoutLowest, size}
-use Rattle.files.proofs.Padded.{padded-get, padded-length, padded-none, padded-store}
+use Rattle.files.proofs.Padded.{padded-get, padded-none, padded-store}
 use Rattle.files.proofs.SetLowest.{lowest-lt, without-lowest-less, without-lowest-lt}
 use Rattle.files.proofs.SetMembers.{size-le, size-without-lowest}
 use Rattle.documents.specs.Paths.{climbUnder, towards}
@@ -138,7 +138,7 @@ module _ (left : ℕ) (some : left ≡ 0 → ⊥) (fits : left < 2 ^ 64) where
     gather-on f all x u r v inv e g h =
         let opened : gather f 63 (withoutLowest left) (union all (f (lowest left))) ≡ v = rw (gather, ne-eqb left 0 some) at inv in
         let less : size (withoutLowest left) ≤ 63 =
-          omega (arith, size-without-lowest left (omega (arith, some)) fits, size-le left) in
+        omega (arith, size-without-lowest left (omega (arith, some)) fits, size-le left) in
         rw (h, g, e, n)
         (sym (gather-more f 63 (withoutLowest left) (union all (f (lowest left))) (without-lowest-lt left fits) less) ∙ opened)
 
@@ -214,7 +214,6 @@ pub ruleset kid-laws = (covered-is, kids-handed, kids-own, kids-one, kids-all)
 pub several-is : (goals w : ℕ) → w ≡ withoutLowest goals → not (eqb w 0) ≡ severalb goals
 unfolding severalb
 several-is goals w e = rw e
-
 
 module _ (parent : ℕ → ℕ) (left at all v : ℕ) (inv : climbAll parent left at all ≡ v) where
   module _ (some : 0 < left) where
@@ -327,7 +326,7 @@ module _ (parent : ℕ → ℕ) (count : ℕ) (R : ℕ → ℕ → ℕ) where
     unfolding rowsFrom
     rows-on here w h few e f =
         let here-is : here ≡ goalsOn parent count R (startOf goals top) c (inv .given) =
-          e ∙ ap (goalsHere parent count goals c) (inv .named-are) ∙ here-same goals top c (inv .given) in
+        e ∙ ap (goalsHere parent count goals c) (inv .named-are) ∙ here-same goals top c (inv .given) in
         let less : count - c ≡ suc (count - (c + 1)) = omega arith in
         record {
           done = inv .done ++ (here ∷ []);
@@ -337,8 +336,8 @@ module _ (parent : ℕ → ℕ) (count : ℕ) (R : ℕ → ℕ → ℕ) where
           rows-long = omega (arith, length-append (inv .done) (here ∷ []), inv .rows-long);
           named-long = omega (arith, length-append (inv .given) (w ∷ []), inv .named-long);
           all =
-            append-assoc (inv .done) (here ∷ []) (rowsFrom parent count R (startOf goals top) (count - (c + 1)) (c + 1) (inv .given ++ (w ∷ [])))
-            ∙ rw (f, here-is, add-one c) (rw (less, add-one c, rowsFrom) at (inv .all));
+              append-assoc (inv .done) (here ∷ []) (rowsFrom parent count R (startOf goals top) (count - (c + 1)) (c + 1) (inv .given ++ (w ∷ [])))
+              ∙ rw (f, here-is, add-one c) (rw (less, add-one c, rowsFrom) at (inv .all));
         }
 
     pub rows-end : count ≤ c → rows ≡ padded 64 (goalRows parent count R (startOf goals top))

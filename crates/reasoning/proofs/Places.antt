@@ -1,13 +1,13 @@
 -- Laws of the parts' numbers as the code works them out: the paths of a depth, the child paths, and the first part on each path.
 use Prim.Native.Nat.{ℕ, zero, suc, _+_, _*_, _-_, _^_, _≤_, _<_}
 use mathlib.Core.Path.{_≡_, refl, sym, ap, ap₂, _∙_, subst}
-use mathlib.Core.Bool.{Bool, true, false, _&&_}
+use mathlib.Core.Bool.{Bool, true, false}
 use mathlib.Core.List.{List, [], _∷_, _++_}
 use native.Mathlib.Omega.{arith}
 use native.Mathlib.Nat.{pow-suc}
 use native.Mathlib.Numerals.{add-one}
-use lib.Dec.{eqb, ltb}
-use lib.ListN.{length, getD, set, length-set}
+use lib.Dec.{eqb}
+use lib.ListN.{length, getD, set}
 use borrow.Author.Tests.{lt-ltb}
 use Rattle.files.specs.Sets.{bit, hasb, withPath, lowest, withoutLowest, size, members}
 use Rattle.files.proofs.SetBits.{hasb-true, hasb-false, with-new, bit-past}
@@ -115,12 +115,6 @@ placed-append whole rows [] m at places = ap (λ (n : ℕ). placed whole rows m 
 placed-append whole rows (c ∷ l) m at places =
     placed-append whole rows l m (at + partsOn whole rows c) (set places c at)
     ∙ ap (λ (n : ℕ). placed whole rows m n (placed whole rows l (at + partsOn whole rows c) (set places c at))) (omega arith)
-
-pub placed-long : (whole : ℕ) (rows l : List ℕ) (at : ℕ) (places : List ℕ) → length (placed whole rows l at places) ≡ length places
-unfolding placed
-placed-long whole rows [] at places = refl
-placed-long whole rows (c ∷ l) at places =
-    placed-long whole rows l (at + partsOn whole rows c) (set places c at) ∙ length-set places c at
 
 module _ (whole : ℕ) (rows : List ℕ) (left : ℕ) (some : left ≡ 0 → ⊥) (fits : left < 2 ^ 64) (x next : ℕ) (low : x ≡ lowest left)
     (n : next ≡ withoutLowest left) where

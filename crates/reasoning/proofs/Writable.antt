@@ -1,10 +1,9 @@
 -- From a table and its reachable sets the document handed back can be written: its numbers and its bytes are few.
-use Prim.Native.Nat.{ℕ, _^_, _≤_, _<_}
-use mathlib.Core.Path.{_≡_, refl, sym, ap, _∙_, subst}
+use Prim.Native.Nat.{ℕ, _^_, _<_}
+use mathlib.Core.Path.{_≡_, refl, sym, _∙_, subst}
 use mathlib.Core.Logic.{_↔_}
 use mathlib.Core.List.{List}
 use native.Mathlib.Omega.{arith}
-use lib.ListN.{getD}
 use Rattle.files.specs.Sets.{Has}
 use Rattle.documents.specs.Paths.{Below}
 use Rattle.documents.proofs.Paths.{below-le}
@@ -12,9 +11,9 @@ use Rattle.reasoning.specs.Reachable.{reachable}
 use Rattle.reasoning.specs.Walk.{Reach}
 use Rattle.reasoning.specs.Arrays.{parentOf, ruleList}
 use Rattle.reasoning.specs.Known.{lookup, reached, Known}
-use Rattle.reasoning.specs.Handed.{Start, ReachWords}
+use Rattle.reasoning.specs.Handed.{ReachWords}
 use Rattle.reasoning.specs.Writer.{wordFor, Tabled, startOf}
-use Rattle.reasoning.specs.Emit.{Ready, Writable}
+use Rattle.reasoning.specs.Emit.{Writable}
 use Rattle.reasoning.proofs.Filling.{sound-fits, depth-some}
 use Rattle.reasoning.proofs.GoalWords.{word-in}
 use Rattle.reasoning.proofs.HandedRows.{Begins}
@@ -56,12 +55,12 @@ module _ (parent kind left right : List ℕ) (count many : ℕ) (depth table : L
       let parents = known .sound .parents in
       record {
         ready =
-          record {
-            parents = parents;
-            tabled = tabled;
-            depths = known .reaches .depths;
-            low = omega (arith, top-small begins (parents .descending) (parents .few) (wordFor depth table count), parents .few);
-          };
+            record {
+              parents = parents;
+              tabled = tabled;
+              depths = known .reaches .depths;
+              low = omega (arith, top-small begins (parents .descending) (parents .few) (wordFor depth table count), parents .few);
+            };
         small = numbers-few (parents .descending) (known .sound .rulesIn) (parents .few) (parents .shallow) table-words begins;
         short = bytes-few (parents .descending) (known .sound .rulesIn) (parents .few) (parents .shallow) table-words begins;
       }

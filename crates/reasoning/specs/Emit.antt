@@ -1,6 +1,6 @@
 -- The document's numbers as the code emits them, one after the other: from arrays of goals and of part numbers, into a lent
 -- buffer or only counted.
-use Prim.Native.Nat.{ℕ, zero, suc, _+_, _≤_, _<_}
+use Prim.Native.Nat.{ℕ, _+_, _≤_, _<_}
 use mathlib.Core.Path.{_≡_}
 use mathlib.Core.Bool.{Bool, true, false, _&&_}
 use mathlib.Core.List.{List, [], _∷_, _++_, List·Memᴰ}

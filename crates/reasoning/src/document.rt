@@ -55,14 +55,27 @@ fn emit_goals(
     let mut left = goals;
     let mut at = start;
     while left != 0 {
-        at = emit(store, number_of(whole, rows, places, k, sets::lowest(left)), out, at);
+        at = emit(
+            store,
+            number_of(whole, rows, places, k, sets::lowest(left)),
+            out,
+            at,
+        );
         left = sets::without_lowest(left);
     }
     at
 }
 
 // The number of the part on path k with all goals, if it is a child.
-fn emit_whole(whole: u64, places: &[u32; 64], handed: bool, k: usize, store: bool, out: &mut [u8], at: usize) -> usize
+fn emit_whole(
+    whole: u64,
+    places: &[u32; 64],
+    handed: bool,
+    k: usize,
+    store: bool,
+    out: &mut [u8],
+    at: usize,
+) -> usize
     requires { ⌜ (k < 64) × Room (wholeNumber whole (now places) handed k) at ⌝ }
     ensures { λ r. ⌜ Emitted store (wholeNumber whole (now (places .entry)) handed k) (now (out .entry)) at (now (out .exit)) r ⌝ }
 {
@@ -116,7 +129,19 @@ fn emit_kids(
     let mut left = child_paths(parent, count, c);
     let mut at = start;
     while left != 0 {
-        at = emit_kids_under(parent, count, whole, rows, places, handed, w, sets::lowest(left), store, out, at);
+        at = emit_kids_under(
+            parent,
+            count,
+            whole,
+            rows,
+            places,
+            handed,
+            w,
+            sets::lowest(left),
+            store,
+            out,
+            at,
+        );
         left = sets::without_lowest(left);
     }
     at
@@ -133,7 +158,14 @@ fn count_whole(whole: u64, handed: bool, k: usize) -> usize
 }
 
 // How many children on path k a part has.
-fn count_kids_under(parent: &[u8; 64], count: usize, whole: u64, handed: bool, w: u64, k: usize) -> usize
+fn count_kids_under(
+    parent: &[u8; 64],
+    count: usize,
+    whole: u64,
+    handed: bool,
+    w: u64,
+    k: usize,
+) -> usize
     requires { ⌜ Parents (now parent) count × (k < count) ⌝ }
     ensures { λ r. ⌜ (r ≡ length (kidsUnder (parentOf (now (parent .entry))) count whole [] [] handed w k)) × (r ≤ 65) ⌝ }
 {
@@ -175,7 +207,19 @@ fn emit_part(
     let many = count_kids(parent, count, whole, c, handed, w);
     let after = emit(store, c, out, at);
     let next = emit(store, many, out, after);
-    emit_kids(parent, count, whole, rows, places, c, handed, w, store, out, next)
+    emit_kids(
+        parent,
+        count,
+        whole,
+        rows,
+        places,
+        c,
+        handed,
+        w,
+        store,
+        out,
+        next,
+    )
 }
 
 // The parts on path c with one goal of a set.
@@ -200,7 +244,19 @@ fn emit_ones(
     let mut at = start;
     while left != 0 {
         let w = one_kids(parent, depth, table, count, c, sets::lowest(left));
-        at = emit_part(parent, count, whole, rows, places, c, false, w, store, out, at);
+        at = emit_part(
+            parent,
+            count,
+            whole,
+            rows,
+            places,
+            c,
+            false,
+            w,
+            store,
+            out,
+            at,
+        );
         left = sets::without_lowest(left);
     }
     at
@@ -227,7 +283,19 @@ fn emit_whole_part(
 {
     if sets::has(whole, c) {
         let w = all_kids(parent, depth, table, count, goals, top, c);
-        return emit_part(parent, count, whole, rows, places, c, true, w, store, out, at);
+        return emit_part(
+            parent,
+            count,
+            whole,
+            rows,
+            places,
+            c,
+            true,
+            w,
+            store,
+            out,
+            at,
+        );
     }
     at
 }
@@ -251,8 +319,35 @@ fn emit_parts(
     requires { ⌜ Ready (now parent) (now depth) count top × (c < 64) × Room (partsNumbers (parentOf (now parent)) count whole (now rows) (now places) (wordFor (now depth) (now table) count) (startOf goals top) c) at ⌝ }
     ensures { λ r. ⌜ Emitted store (partsNumbers (parentOf (now (parent .entry))) count whole (now (rows .entry)) (now (places .entry)) (wordFor (now (depth .entry)) (now (table .entry)) count) (startOf goals top) c) (now (out .entry)) at (now (out .exit)) r ⌝ }
 {
-    let next = emit_whole_part(parent, depth, table, count, goals, top, whole, rows, places, c, store, out, at);
-    emit_ones(parent, depth, table, count, whole, rows, places, c, rows[c], store, out, next)
+    let next = emit_whole_part(
+        parent,
+        depth,
+        table,
+        count,
+        goals,
+        top,
+        whole,
+        rows,
+        places,
+        c,
+        store,
+        out,
+        at,
+    );
+    emit_ones(
+        parent,
+        depth,
+        table,
+        count,
+        whole,
+        rows,
+        places,
+        c,
+        rows[c],
+        store,
+        out,
+        next,
+    )
 }
 
 // The parts on the paths of a layer.
@@ -277,7 +372,21 @@ fn emit_layer(
     let mut left = layer;
     let mut at = start;
     while left != 0 {
-        at = emit_parts(parent, depth, table, count, goals, top, whole, rows, places, sets::lowest(left), store, out, at);
+        at = emit_parts(
+            parent,
+            depth,
+            table,
+            count,
+            goals,
+            top,
+            whole,
+            rows,
+            places,
+            sets::lowest(left),
+            store,
+            out,
+            at,
+        );
         left = sets::without_lowest(left);
     }
     at
@@ -305,7 +414,21 @@ fn emit_layers(
     let mut at = start;
     while d < 9 {
         let layer = layer_of(depth, count, d);
-        at = emit_layer(parent, depth, table, count, goals, top, whole, rows, places, layer, store, out, at);
+        at = emit_layer(
+            parent,
+            depth,
+            table,
+            count,
+            goals,
+            top,
+            whole,
+            rows,
+            places,
+            layer,
+            store,
+            out,
+            at,
+        );
         d += 1;
     }
     at
@@ -331,7 +454,20 @@ fn emit_document(
     ensures { λ r. ⌜ Emitted store (parts ∷ eachOf (partsNumbers (parentOf (now (parent .entry))) count whole (now (rows .entry)) (now (places .entry)) (wordFor (now (depth .entry)) (now (table .entry)) count) (startOf goals top)) (pathOrder (parentOf (now (parent .entry))) count)) (now (out .entry)) at (now (out .exit)) r ⌝ }
 {
     let next = emit(store, parts, out, at);
-    emit_layers(parent, depth, table, count, goals, top, whole, rows, places, store, out, next)
+    emit_layers(
+        parent,
+        depth,
+        table,
+        count,
+        goals,
+        top,
+        whole,
+        rows,
+        places,
+        store,
+        out,
+        next,
+    )
 }
 
 // The document's bytes put into `out`: all of them or, where they are longer than it, none (refusal 20).
@@ -351,11 +487,39 @@ fn put_document(
     requires { ⌜ Ready (now parent) (now depth) count top × Room (parts ∷ eachOf (partsNumbers (parentOf (now parent)) count whole (now rows) (now places) (wordFor (now depth) (now table) count) (startOf goals top)) (pathOrder (parentOf (now parent)) count)) 0 ⌝ }
     ensures { λ r. ⌜ Puts (put (bytesOfAll (wrapped (parts ∷ eachOf (partsNumbers (parentOf (now (parent .entry))) count whole (now (rows .entry)) (now (places .entry)) (wordFor (now (depth .entry)) (now (table .entry)) count) (startOf goals top)) (pathOrder (parentOf (now (parent .entry))) count)))) (now (out .entry))) r (now (out .exit)) ⌝ }
 {
-    let size = emit_document(parent, depth, table, count, goals, top, whole, rows, places, parts, false, out, 0);
+    let size = emit_document(
+        parent,
+        depth,
+        table,
+        count,
+        goals,
+        top,
+        whole,
+        rows,
+        places,
+        parts,
+        false,
+        out,
+        0,
+    );
     if out.len() < size {
         return Written::Refused(20, 0);
     }
-    emit_document(parent, depth, table, count, goals, top, whole, rows, places, parts, true, out, 0);
+    emit_document(
+        parent,
+        depth,
+        table,
+        count,
+        goals,
+        top,
+        whole,
+        rows,
+        places,
+        parts,
+        true,
+        out,
+        0,
+    );
     Written::Length(size)
 }
 
@@ -376,5 +540,17 @@ pub(crate) fn write_document(
     let rows = goal_rows(parent, depth, table, count, goals, top, whole);
     let mut places = [0u32; 64];
     let parts = place_all(parent, depth, count, whole, &rows, &mut places);
-    put_document(parent, depth, table, count, goals, top, whole, &rows, &places, parts, out)
+    put_document(
+        parent,
+        depth,
+        table,
+        count,
+        goals,
+        top,
+        whole,
+        &rows,
+        &places,
+        parts,
+        out,
+    )
 }

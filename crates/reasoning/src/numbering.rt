@@ -68,7 +68,13 @@ fn parts_on(whole: u64, rows: &[u64; 64], c: usize) -> usize
 }
 
 // The number of the first part on each path of a layer stored, from `start` on; the number after them.
-fn place_layer(whole: u64, rows: &[u64; 64], layer: u64, start: usize, places: &mut [u32; 64]) -> usize
+fn place_layer(
+    whole: u64,
+    rows: &[u64; 64],
+    layer: u64,
+    start: usize,
+    places: &mut [u32; 64],
+) -> usize
     requires { ⌜ start ≤ 60000 ⌝ }
     ensures { λ r. ⌜ (r ≡ start + partsIn whole (now (rows .entry)) (members layer)) × (r ≤ start + 4160) × (now (places .exit) ≡ placed whole (now (rows .entry)) (members layer) start (now (places .entry))) ⌝ }
 {
@@ -84,7 +90,14 @@ fn place_layer(whole: u64, rows: &[u64; 64], layer: u64, start: usize, places: &
 }
 
 // The number of the first part on each path stored; how many parts there are.
-pub(crate) fn place_all(parent: &[u8; 64], depth: &[u8; 64], count: usize, whole: u64, rows: &[u64; 64], places: &mut [u32; 64]) -> usize
+pub(crate) fn place_all(
+    parent: &[u8; 64],
+    depth: &[u8; 64],
+    count: usize,
+    whole: u64,
+    rows: &[u64; 64],
+    places: &mut [u32; 64],
+) -> usize
     requires { ⌜ (count ≤ 64) × DepthsIn (now parent) count (now depth) ⌝ }
     ensures { λ r. ⌜ (r ≡ partsIn whole (now (rows .entry)) (pathOrder (parentOf (now (parent .entry))) count)) × (r ≤ 33280) × (now (places .exit) ≡ placed whole (now (rows .entry)) (pathOrder (parentOf (now (parent .entry))) count) 0 (now (places .entry))) ⌝ }
 {
@@ -112,7 +125,13 @@ pub(crate) fn place_at(places: &[u32; 64], k: usize) -> usize
 }
 
 // The number of the part on path k with the one goal g.
-pub(crate) fn number_of(whole: u64, rows: &[u64; 64], places: &[u32; 64], k: usize, g: usize) -> usize
+pub(crate) fn number_of(
+    whole: u64,
+    rows: &[u64; 64],
+    places: &[u32; 64],
+    k: usize,
+    g: usize,
+) -> usize
     requires { ⌜ k < 64 ⌝ }
     ensures { λ r. ⌜ r ≡ numberIn whole (now (rows .entry)) (now (places .entry)) k g ⌝ }
 {

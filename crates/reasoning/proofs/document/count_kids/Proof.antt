@@ -1,3 +1,4 @@
+-- `reasoning::document::count_kids` meets its contract: what is counted and what remains is the whole.
 use Rattle.reasoning.proofs.document.count_kids.Statement.{statement}
 use Rattle.reasoning.proofs.document.count_kids.Tie as tie
 use borrow.Author.Needs.{needs}

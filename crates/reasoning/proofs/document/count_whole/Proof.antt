@@ -1,3 +1,4 @@
+-- `reasoning::document::count_whole` meets its contract: one or none.
 use borrow.Author.Needs.{needs}
 use Rattle.reasoning.proofs.document.count_whole.Statement.{statement}
 use Rattle.reasoning.proofs.document.count_whole.Tie as tie

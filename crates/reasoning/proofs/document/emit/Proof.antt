@@ -1,3 +1,4 @@
+-- `reasoning::document::emit` meets its contract: its bytes are counted, or stored too.
 use borrow.Author.Needs.{needs}
 use Rattle.reasoning.proofs.document.emit.Statement.{statement}
 use Rattle.reasoning.proofs.document.emit.Tie as tie

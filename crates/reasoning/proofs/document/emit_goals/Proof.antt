@@ -1,3 +1,4 @@
+-- `reasoning::document::emit_goals` meets its contract: what is emitted and what remains is the whole.
 use Rattle.reasoning.proofs.document.emit_goals.Statement.{statement}
 use Rattle.reasoning.proofs.document.emit_goals.Tie as tie
 use borrow.Author.Needs.{needs}

@@ -1,3 +1,4 @@
+-- `reasoning::document::emit_part` meets its contract: three pieces, one after the other.
 use borrow.Author.Needs.{needs}
 use Rattle.reasoning.proofs.document.emit_part.Statement.{statement}
 use Rattle.reasoning.proofs.document.emit_part.Tie as tie

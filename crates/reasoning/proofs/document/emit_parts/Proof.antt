@@ -1,3 +1,4 @@
+-- `reasoning::document::emit_parts` meets its contract: two pieces, one after the other.
 use borrow.Author.Needs.{needs}
 use Rattle.reasoning.proofs.document.emit_parts.Statement.{statement}
 use Rattle.reasoning.proofs.document.emit_parts.Tie as tie
@@ -14,10 +15,11 @@ element-copy-out-emit-ones c = search needs
 
 emit-ones-requires : tie.Need-emit-ones-requires
 emit-ones-requires c κs =
-    let known = c .before .before .before .before .before .before .before .pre in
-    (known .0 .parents,
-    known .0 .tabled,
-    path-second _ _ _ _ _ _ _ _ _ _ _ _ _ (c .before .before .before .before .emit-whole-part .ensures) (known .2))
+    let known = c .before .before .before .before .before .before .before .pre in (
+      known .0 .parents,
+      known .0 .tabled,
+      path-second _ _ _ _ _ _ _ _ _ _ _ _ _ (c .before .before .before .before .emit-whole-part .ensures) (known .2),
+    )
 
 same-length : tie.Need-same-length
 same-length c = search needs

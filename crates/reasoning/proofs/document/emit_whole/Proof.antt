@@ -1,3 +1,4 @@
+-- `reasoning::document::emit_whole` meets its contract: one number or none.
 use borrow.Author.Needs.{needs}
 use Rattle.reasoning.proofs.document.emit_whole.Statement.{statement}
 use Rattle.reasoning.proofs.document.emit_whole.Tie as tie

@@ -1,3 +1,4 @@
+-- `reasoning::document::emit_whole_part` meets its contract: one part or none.
 use borrow.Author.Needs.{needs}
 use Rattle.reasoning.proofs.document.emit_whole_part.Statement.{statement}
 use Rattle.reasoning.proofs.document.emit_whole_part.Tie as tie

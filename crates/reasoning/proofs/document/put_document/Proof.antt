@@ -1,3 +1,4 @@
+-- `reasoning::document::put_document` meets its contract: the size is known before the first store.
 use borrow.Author.Needs.{needs}
 use Rattle.reasoning.proofs.document.put_document.Statement.{statement}
 use Rattle.reasoning.proofs.document.put_document.Tie as tie

@@ -1,3 +1,4 @@
+-- `reasoning::goals::all_kids` meets its contract: all goals.
 use borrow.Author.Needs.{needs}
 use Rattle.reasoning.proofs.goals.all_kids.Statement.{statement}
 use Rattle.reasoning.proofs.goals.all_kids.Tie as tie

@@ -1,3 +1,4 @@
+-- `reasoning::goals::chain` meets its contract: several goals or one.
 use borrow.Author.Needs.{needs}
 use Rattle.reasoning.proofs.goals.chain.Statement.{statement}
 use Rattle.reasoning.proofs.goals.chain.Tie as tie

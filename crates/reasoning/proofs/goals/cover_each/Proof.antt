@@ -1,3 +1,4 @@
+-- `reasoning::goals::cover_each` meets its contract: what is gathered and what remains is the whole.
 use Rattle.reasoning.proofs.goals.cover_each.Statement.{statement}
 use Rattle.reasoning.proofs.goals.cover_each.Tie as tie
 use borrow.Author.Needs.{needs}

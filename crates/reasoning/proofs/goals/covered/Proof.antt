@@ -1,3 +1,4 @@
+-- `reasoning::goals::covered` meets its contract: the child path first.
 use borrow.Author.Needs.{needs}
 use Rattle.reasoning.proofs.goals.covered.Statement.{statement}
 use Rattle.reasoning.proofs.goals.covered.Tie as tie

@@ -1,3 +1,4 @@
+-- `reasoning::goals::goal_rows` meets its contract: the goals on the paths passed, and what remains.
 use Rattle.reasoning.proofs.goals.goal_rows.Statement.{statement}
 use Rattle.reasoning.proofs.goals.goal_rows.Tie as tie
 use borrow.Author.Needs.{needs}

@@ -1,3 +1,4 @@
+-- `reasoning::goals::one_kids` meets its contract: one goal.
 use borrow.Author.Needs.{needs}
 use Rattle.reasoning.proofs.goals.one_kids.Statement.{statement}
 use Rattle.reasoning.proofs.goals.one_kids.Tie as tie

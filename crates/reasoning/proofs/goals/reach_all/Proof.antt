@@ -1,3 +1,4 @@
+-- `reasoning::goals::reach_all` meets its contract: what is gathered and what remains is the whole.
 use Rattle.reasoning.proofs.goals.reach_all.Statement.{statement}
 use Rattle.reasoning.proofs.goals.reach_all.Tie as tie
 use borrow.Author.Needs.{needs}

@@ -1,3 +1,4 @@
+-- `reasoning::goals::towards` meets its contract: the climbs still to make.
 use Rattle.reasoning.proofs.goals.towards.Statement.{statement}
 use Rattle.reasoning.proofs.goals.towards.Tie as tie
 use borrow.Author.Needs.{needs}

@@ -1,3 +1,4 @@
+-- `reasoning::numbering::bit_of` meets its contract: the test's number.
 use borrow.Author.Needs.{needs}
 use Rattle.reasoning.proofs.numbering.bit_of.Statement.{statement}
 use Rattle.reasoning.proofs.numbering.bit_of.Tie as tie

@@ -1,3 +1,4 @@
+-- `reasoning::numbering::child_paths` meets its contract: the paths passed.
 use Rattle.reasoning.proofs.numbering.child_paths.Statement.{statement}
 use Rattle.reasoning.proofs.numbering.child_paths.Tie as tie
 use borrow.Author.Needs.{needs}
@@ -31,11 +32,12 @@ loop-less c = search (needs, child-paths-laws)
 
 loop-again : tie.Need-loop-again Inv-loop μ-loop
 loop-again c =
-    let inv = c .before .before .before .loop .inv in
-    (search needs,
-    search needs,
-    with-under _ _ _ _ (inv .2) (omega arith) (c .with-if .ensures),
-    child-on _ _ _ _ (c .before .parent-of .result) _ (inv .0) (inv .3) (c .before .parent-of .ensures .0) (c .with-if .ensures))
+    let inv = c .before .before .before .loop .inv in (
+      search needs,
+      search needs,
+      with-under _ _ _ _ (inv .2) (omega arith) (c .with-if .ensures),
+      child-on _ _ _ _ (c .before .parent-of .result) _ (inv .0) (inv .3) (c .before .parent-of .ensures .0) (c .with-if .ensures),
+    )
 
 returns : tie.Need-returns Inv-loop μ-loop
 returns c = search (needs, child-paths-laws)

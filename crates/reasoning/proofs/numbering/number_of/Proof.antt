@@ -1,3 +1,4 @@
+-- `reasoning::numbering::number_of` meets its contract: what stands before it on its path.
 use borrow.Author.Needs.{needs}
 use Rattle.reasoning.proofs.numbering.number_of.Statement.{statement}
 use Rattle.reasoning.proofs.numbering.number_of.Tie as tie

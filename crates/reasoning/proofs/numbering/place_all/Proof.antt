@@ -1,7 +1,8 @@
+-- `reasoning::numbering::place_all` meets its contract: layer by layer, what remains is the whole.
 use Rattle.reasoning.proofs.numbering.place_all.Statement.{statement}
 use Rattle.reasoning.proofs.numbering.place_all.Tie as tie
 use borrow.Author.Needs.{needs}
-use Prim.Native.Nat.{_+_, _*_, _-_, _≤_, _<_}
+use Prim.Native.Nat.{_+_, _*_, _-_, _≤_}
 use mathlib.Core.Path.{_≡_}
 use Rattle.reasoning.specs.Arrays.{parentOf}
 use Rattle.reasoning.specs.Handed.{layersFrom, pathOrder}
