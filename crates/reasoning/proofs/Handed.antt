@@ -134,8 +134,8 @@ module _ {parent : ℕ → ℕ} {rules : List Rule} {count : ℕ} {R : ℕ → �
     kids-ordered =
         sorted-each (kidBlock parent count R goals start handed w) (ascending-sorted (members-ascending (childPaths parent count c)))
         (λ k m.
-        block-sorted goals (common w (subtree parent count k)) k (common-lt w (subtree parent count k) small)
-        (handed && hasb (chain parent count R start) k) (λ t. chain-several desc within few shallow words begins (on-chain k t)))
+            block-sorted goals (common w (subtree parent count k)) k (common-lt w (subtree parent count k) small)
+            (handed && hasb (chain parent count R start) k) (λ t. chain-several desc within few shallow words begins (on-chain k t)))
         (λ k l x y e p q m n. blocks-apart (beside (level k l p q) e) (block-path (kid-block k x .0 m)) (block-path (kid-block l y .0 n)))
       where
         level : (k l : ℕ) → List·Memᴰ k (members (childPaths parent count c)) → List·Memᴰ l (members (childPaths parent count c))
@@ -340,14 +340,14 @@ module _ {parent : ℕ → ℕ} {rules : List Rule} {count : ℕ} {R : ℕ → �
       matches-append
       (only-matches (hasb (chain parent count R start) c) (allPart c goals) _
       (λ t.
-      let h = hasb-true (chain parent count R start) c t in
-      lays-down c true (allKids parent count R start c) (all-kids-small parent count R start c (begins .word .small)) (λ g k. ofAll h k)
-      (allPart c goals) refl (all-kids-iff h)))
+          let h = hasb-true (chain parent count R start) c t in
+          lays-down c true (allKids parent count R start c) (all-kids-small parent count R start c (begins .word .small)) (λ g k. ofAll h k)
+          (allPart c goals) refl (all-kids-iff h)))
       (matches-map (onePart c) _ (members (row parent count R start c))
       (λ g m.
-      let h = mem-members (row parent count R start c) g (row-word desc within few shallow words begins l) .0 m in
-      lays-down c false (oneKids parent count R c g) (one-kids-small parent count R start c g) (λ x k. ofOne g h k)
-      (onePart c g) refl (one-kids-iff (row-named desc within few words begins l h))))
+          let h = mem-members (row parent count R start c) g (row-word desc within few shallow words begins l) .0 m in
+          lays-down c false (oneKids parent count R c g) (one-kids-small parent count R start c g) (λ x k. ofOne g h k)
+          (onePart c g) refl (one-kids-iff (row-named desc within few words begins l h))))
 
   -- the entries lay down the parts, one by one
   pub entries-lay : Matches (LaysDown parent count (wordReach R) (handedParts parent count R goals start))

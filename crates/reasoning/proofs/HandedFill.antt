@@ -94,7 +94,8 @@ module _ (parent : ℕ → ℕ) (count : ℕ) (R : ℕ → ℕ → ℕ) where
         → T (someb (λ k. coversb (wordReach R) k x) (ownKids parent c goals)) ↔ Has (coverEach parent count R c (withoutPath w c)) x
     unfolding coverEach
     each-covers own x =
-        let r = gather-iff (λ g. R (towards parent c g) g) 64 (withoutPath w c) 0 x (without-lt w c (word .small)) (size-le (withoutPath w c)) in (
+        let r = gather-iff (λ g. R (towards parent c g) g) 64 (withoutPath w c) 0 x (without-lt w c (word .small)) (size-le (withoutPath w c)) in
+        (
           λ s.
               let m = someb-some (λ k. coversb (wordReach R) k x) (ownKids parent c goals) s in
               r .1 (inr (out (own (m .member) .0 (m .listed)) (m .passes))),
@@ -339,9 +340,9 @@ module _ {parent : ℕ → ℕ} {rules : List Rule} {count : ℕ} {R : ℕ → �
           members-under 64 count _
           (difference-lt _ (ownCovers parent count R c w top handed) (without-lt (reachAll parent count R c w) c reached-small)) few
           (λ i h.
-          any-small desc within v
-          (reached-any i (has-without (reachAll parent count R c w) c i .0
-          (has-difference (withoutPath (reachAll parent count R c w) c) (ownCovers parent count R c w top handed) i .0 h .0) .1)))
+              any-small desc within v
+              (reached-any i (has-without (reachAll parent count R c w) c i .0
+              (has-difference (withoutPath (reachAll parent count R c w) c) (ownCovers parent count R c w top handed) i .0 h .0) .1)))
 
       kids-filled : (k : Part) → List·Memᴰ k (kidsOf parent count (wordReach R) (record { path = c; goals = goals }))
           ↔ KidBy parent c goals handed

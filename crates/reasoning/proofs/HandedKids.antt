@@ -169,7 +169,8 @@ module _ (parent : ℕ → ℕ) (R : ℕ → ℕ → ℕ) where
       → T (coversb (wordReach R) (record { path = c; goals = goals }) x) ↔ Has (reachAll parent count R c w) x
   unfolding coversb reachAll
   covers-word {goals} {w} word count c x =
-      let r = gather-iff (λ g. R c g) 64 w 0 x (word .small) (size-le w) in (
+      let r = gather-iff (λ g. R c g) 64 w 0 x (word .small) (size-le w) in
+      (
         λ t.
             let s = someb-some (λ g. hasb (R c g) x) goals t in
             r .1 (inr (record {

@@ -101,12 +101,8 @@ module _ {parent : ℕ → ℕ} {count : ℕ} {goals : List ℕ} {start : Start}
   module _ (desc : Descending parent) (few : count ≤ 64) (R : ℕ → ℕ → ℕ) where
     pub top-small : start .top < count
     top-small =
-        omega (
-          arith,
-          begins .top,
-          below-le desc (meet-above desc (begins .goalsIn .listed)),
-          begins .goalsIn .small (begins .goalsIn .some) (begins .goalsIn .listed),
-        )
+        omega (arith, begins .top, below-le desc (meet-above desc (begins .goalsIn .listed)),
+        begins .goalsIn .small (begins .goalsIn .some) (begins .goalsIn .listed))
 
     -- the chain: the paths at or above the goals' context, if the goals are several
     pub chain-iff : (c : ℕ) → Has (chain parent count R start) c ↔ ((severalb (start .goals) ≡ true) × Below parent c (start .top))

@@ -52,7 +52,8 @@ module _ (parent : ℕ → ℕ) (count : ℕ) (few : count ≤ 64) where
   unfolding layer
   layer-mem d x =
       let m = mem-members (layer parent count d) x (where-small (λ y. eqb (depthOf parent y) d) count) in
-      let w = where-iff (λ y. eqb (depthOf parent y) d) count x few in (
+      let w = where-iff (λ y. eqb (depthOf parent y) d) count x few in
+      (
         λ h. let r = w .0 (m .0 h) in (r .0, eqb→eq (depthOf parent x) d (r .1)),
         λ h. m .1 (w .1 (h .0, subst (λ (z : ℕ). T (eqb z d)) (sym (h .1)) (eqb-refl d))),
       )
@@ -63,15 +64,14 @@ module _ (parent : ℕ → ℕ) (count : ℕ) (few : count ≤ 64) where
   child-mem c x =
       let test : ℕ → Bool = λ y. ltb 0 y && eqb (parent y) c in
       let m = mem-members (childPaths parent count c) x (where-small test count) in
-      let w = where-iff test count x few in (
+      let w = where-iff test count x few in
+      (
         λ h.
             let r = w .0 (m .0 h) in
             (ltb→lt 0 x (and-l (ltb 0 x) (eqb (parent x) c) (r .1)), r .0, eqb→eq (parent x) c (and-r (ltb 0 x) (eqb (parent x) c) (r .1))),
         λ h.
-            m .1 (w .1 (
-              h .1,
-              and-i (ltb 0 x) (eqb (parent x) c) (lt→ltb 0 x (h .0)) (subst (λ (z : ℕ). T (eqb z c)) (sym (h .2)) (eqb-refl c)),
-            )),
+            m .1 (w .1 (h .1,
+            and-i (ltb 0 x) (eqb (parent x) c) (lt→ltb 0 x (h .0)) (subst (λ (z : ℕ). T (eqb z c)) (sym (h .2)) (eqb-refl c)))),
       )
 
   layers-mem : (left d x : ℕ) → List·Memᴰ x (layersFrom parent count left d)
@@ -206,8 +206,8 @@ module _ (goals : List ℕ) (w c : ℕ) (small : w < 2 ^ 64) where
       pick true s =
           Sorted.next
           (λ b m.
-          let r = map-from (onePart c) (members w) b m in
-          subst (λ (z : Part). Precedes parent (allPart c goals) z) (sym (r .2)) (bySeveral refl (s refl) (r .0) (single (r .0))))
+              let r = map-from (onePart c) (members w) b m in
+              subst (λ (z : Part). Precedes parent (allPart c goals) z) (sym (r .2)) (bySeveral refl (s refl) (r .0) (single (r .0))))
           ones
 
 -- the parts of blocks on paths one of which comes before the other

@@ -174,7 +174,7 @@ module _ {parent : ℕ → ℕ} {rules : List Rule} {count : ℕ} {reach : ℕ �
         subst (λ (z : List ℕ). Ascending (suc n) z) (sym (kids-at (b .at)))
         (sorted-ascending (ascending-sorted (b .lays .ascending))
         (λ k m. let q = laid-kid n k l (subst (λ (z : List ℕ). List·Memᴰ k z) (sym (kids-at (b .at))) m) in
-        kid-later (q .from .number) (q .number) (kid-stands-at q)));
+            kid-later (q .from .number) (q .number) (kid-stands-at q)));
     below = λ n k l m. omega (arith, numbered-lt (laid-kid n k l m .number), matches-length (w .entries));
     named = λ k p l. let b = laid-under k l in named-by p (b .number) (b .named);
     inner = λ n k l m. let b = laid-kid n k l m in omega (arith, path-of (b .number), kid-stands-at b .inner);
