@@ -134,8 +134,8 @@ module _ {parent : ℕ → ℕ} {rules : List Rule} {count : ℕ} {R : ℕ → �
     kids-ordered =
         sorted-each (kidBlock parent count R goals start handed w) (ascending-sorted (members-ascending (childPaths parent count c)))
         (λ k m.
-            block-sorted goals (common w (subtree parent count k)) k (common-lt w (subtree parent count k) small)
-            (handed && hasb (chain parent count R start) k) (λ t. chain-several desc within few shallow words begins (on-chain k t)))
+        block-sorted goals (common w (subtree parent count k)) k (common-lt w (subtree parent count k) small)
+        (handed && hasb (chain parent count R start) k) (λ t. chain-several desc within few shallow words begins (on-chain k t)))
         (λ k l x y e p q m n. blocks-apart (beside (level k l p q) e) (block-path (kid-block k x .0 m)) (block-path (kid-block l y .0 n)))
       where
         level : (k l : ℕ) → List·Memᴰ k (members (childPaths parent count c)) → List·Memᴰ l (members (childPaths parent count c))
@@ -146,12 +146,14 @@ module _ {parent : ℕ → ℕ} {rules : List Rule} {count : ℕ} {R : ℕ → �
             omega (arith, depth-child desc k (r .0), depth-child desc l (s .0), ap (depthOf parent) (r .2), ap (depthOf parent) (s .2))
 
     module _ (goal : (h : ℕ) → Has w h → KidGoal parent count R start c (row parent count R start c) h) where
-      kids-numbered : Matches (λ a n. NumberedIn (handedParts parent count R goals start) n a) (kidParts parent count R goals start c handed w)
+      kids-numbered : Matches (λ a n. NumberedIn (handedParts parent count R goals start) n a)
+          (kidParts parent count R goals start c handed w)
           (eachOf (kidsOn parent count R start (chain parent count R start) (goalRows parent count R start) (pathOrder parent count) handed w)
           (members (childPaths parent count c)))
       unfolding kidsOn block
       kids-numbered =
-          matches-each (kidBlock parent count R goals start handed w) _ (members (childPaths parent count c)) (λ k m. on k (child-mem parent count few c k .0 m))
+          matches-each (kidBlock parent count R goals start handed w) _ (members (childPaths parent count c))
+          (λ k m. on k (child-mem parent count few c k .0 m))
         where
           ch : ℕ
           ch = chain parent count R start
@@ -176,7 +178,8 @@ module _ {parent : ℕ → ℕ} {rules : List Rule} {count : ℕ} {R : ℕ → �
               (only-matches (handed && hasb ch k) (allPart k goals) (placeOf ch rs (pathOrder parent count) k)
               (λ t. number-all goals ch rs (pathOrder parent count) k (in-order desc within few shallow words begins (r .1)) (on-chain k t)))
               (matches-map (onePart k) (numberOf ch rs (pathOrder parent count) k) (members (common w (subtree parent count k)))
-              (λ h m. number-one goals ch rs (pathOrder parent count) k h (row-word desc within few shallow words begins (r .1)) (in-order desc within few shallow words begins (r .1)) (in-row k r h m)))
+              (λ h m. number-one goals ch rs (pathOrder parent count) k h (row-word desc within few shallow words begins (r .1))
+              (in-order desc within few shallow words begins (r .1)) (in-row k r h m)))
 
       -- an entry lays its part down, where the blocks are the part's children
       lays-down : (a : Part) → a .path ≡ c
@@ -187,7 +190,8 @@ module _ {parent : ℕ → ℕ} {rules : List Rule} {count : ℕ} {R : ℕ → �
       lays-down a e is = record {
         path = sym e;
         ascending = sorted-ascending
-            (matches-sorted kids-ordered kids-numbered (λ x y m n p q r. sorted-less precedes-asym (parts-ordered desc within few shallow words begins) q r p)) (λ n m. omega arith);
+            (matches-sorted kids-ordered kids-numbered
+            (λ x y m n p q r. sorted-less precedes-asym (parts-ordered desc within few shallow words begins) q r p)) (λ n m. omega arith);
         only = λ n m.
             let r = matches-partner kids-numbered m in
             record {
@@ -236,7 +240,8 @@ module _ {parent : ℕ → ℕ} {rules : List Rule} {count : ℕ} {R : ℕ → �
         from-each (kidBlock parent count R goals start handed w)
         (subst (λ (z : ℕ). List·Memᴰ (j .path) (members (childPaths parent count z))) on (kid-path n m))
         (kid-block c handed w small (j .path) j .1 (InBlock.one h
-        (has-common w (subtree parent count (j .path)) h .1 (k, subtree-iff desc (j .path) count (s .small) few h .1 (v .small h d, v .below h d)))
+        (has-common w (subtree parent count (j .path)) h .1
+        (k, subtree-iff desc (j .path) count (s .small) few h .1 (v .small h d, v .below h d)))
         (e ∙ ap (λ (z : ℕ). onePart z h) (sym (ap pathOf e)))))
 
     -- what stands in a block with one goal is a child with a goal of its own
@@ -297,7 +302,8 @@ module _ {parent : ℕ → ℕ} {rules : List Rule} {count : ℕ} {R : ℕ → �
       out : List·Memᴰ j (kidParts parent count R goals start c true (allKids parent count R start c))
           → List·Memᴰ j (kidsOf parent count (wordReach R) (allPart c goals))
       out m =
-          let r = each-from (kidBlock parent count R goals start true (allKids parent count R start c)) (members (childPaths parent count c)) j m in
+          let r = each-from (kidBlock parent count R goals start true (allKids parent count R start c))
+          (members (childPaths parent count c)) j m in
           kids .1 (back (r .source) (child-mem parent count few c (r .source) .0 (r .listed))
           (kid-block c true (allKids parent count R start c) small (r .source) j .0 (r .member)))
 
@@ -327,7 +333,8 @@ module _ {parent : ℕ → ℕ} {rules : List Rule} {count : ℕ} {R : ℕ → �
       out : List·Memᴰ j (kidParts parent count R goals start c false (oneKids parent count R c g))
           → List·Memᴰ j (kidsOf parent count (wordReach R) (onePart c g))
       out m =
-          let r = each-from (kidBlock parent count R goals start false (oneKids parent count R c g)) (members (childPaths parent count c)) j m in
+          let r = each-from (kidBlock parent count R goals start false (oneKids parent count R c g))
+          (members (childPaths parent count c)) j m in
           kids .1 (back (r .source) (child-mem parent count few c (r .source) .0 (r .listed))
           (kid-block c false (oneKids parent count R c g) small (r .source) j .0 (r .member)))
 
@@ -340,14 +347,14 @@ module _ {parent : ℕ → ℕ} {rules : List Rule} {count : ℕ} {R : ℕ → �
       matches-append
       (only-matches (hasb (chain parent count R start) c) (allPart c goals) _
       (λ t.
-          let h = hasb-true (chain parent count R start) c t in
-          lays-down c true (allKids parent count R start c) (all-kids-small parent count R start c (begins .word .small)) (λ g k. ofAll h k)
-          (allPart c goals) refl (all-kids-iff h)))
+      let h = hasb-true (chain parent count R start) c t in
+      lays-down c true (allKids parent count R start c) (all-kids-small parent count R start c (begins .word .small)) (λ g k. ofAll h k)
+      (allPart c goals) refl (all-kids-iff h)))
       (matches-map (onePart c) _ (members (row parent count R start c))
       (λ g m.
-          let h = mem-members (row parent count R start c) g (row-word desc within few shallow words begins l) .0 m in
-          lays-down c false (oneKids parent count R c g) (one-kids-small parent count R start c g) (λ x k. ofOne g h k)
-          (onePart c g) refl (one-kids-iff (row-named desc within few words begins l h))))
+      let h = mem-members (row parent count R start c) g (row-word desc within few shallow words begins l) .0 m in
+      lays-down c false (oneKids parent count R c g) (one-kids-small parent count R start c g) (λ x k. ofOne g h k)
+      (onePart c g) refl (one-kids-iff (row-named desc within few words begins l h))))
 
   -- the entries lay down the parts, one by one
   pub entries-lay : Matches (LaysDown parent count (wordReach R) (handedParts parent count R goals start))
@@ -361,7 +368,8 @@ module _ {parent : ℕ → ℕ} {rules : List Rule} {count : ℕ} {R : ℕ → �
     parts = (handedParts parent count R goals start);
     begins = parts-begin desc within few shallow words begins;
     named = parts-named desc within few shallow words begins;
-    every = λ a n. let r = parts-every desc within few shallow words begins a n in (r .0, record { part = a; number = r .1; same = same-part a });
+    every = λ a n. let r = parts-every desc within few shallow words begins a n in
+        (r .0, record { part = a; number = r .1; same = same-part a });
     ordered = parts-ordered desc within few shallow words begins;
     entries = entries-lay;
   }

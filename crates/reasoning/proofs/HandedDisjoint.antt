@@ -115,8 +115,12 @@ module _ {parent : ℕ → ℕ} (desc : Descending parent) where
         → ((c g : ℕ) → List·Memᴰ c l → Has (word c) g → Below parent c g)
         → length (eachOf (λ c. block goals (test c) (word c) c) l) ≤ 64
     blocks-few {l} s on all one =
-        omega (arith, each-disjoint mark (λ c. block goals (test c) (word c) c) s apart
-        (λ c m. block-size c (bit-absent (word c) 0 (λ h. inner c m (one c 0 m h)))), size-le (unionOf mark l))
+        omega (
+          arith,
+          each-disjoint mark (λ c. block goals (test c) (word c) c) s apart
+              (λ c m. block-size c (bit-absent (word c) 0 (λ h. inner c m (one c 0 m h)))),
+          size-le (unionOf mark l),
+        )
       where
         inner : (c : ℕ) → List·Memᴰ c l → Below parent c 0 → ⊥
         inner c m b = omega (arith, on c m .0, below-zero desc b)

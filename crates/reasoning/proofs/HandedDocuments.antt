@@ -2,7 +2,7 @@
 use Prim.Native.Nat.{ℕ, _^_, _<_, _≤_}
 use mathlib.Core.Path.{_≡_, refl, sym, ap, subst, _∙_}
 use mathlib.Core.Logic.{_⊎_, inl, inr, Iff·trans}
-use mathlib.Core.Bool.{Bool, true, false}
+use mathlib.Core.Bool.{Bool, true, false, _&&_}
 use mathlib.Core.List.{List, [], _∷_, List·Memᴰ, List·Memᴰ·head, List·Memᴰ·tail, List·Memᴰ·cases-cons}
 use native.Mathlib.Omega.{arith}
 use lib.Dec.{T, eqb, lit<}
@@ -23,7 +23,16 @@ use Rattle.reasoning.specs.Reachable.{Fits, reachable, reachb}
 use Rattle.reasoning.specs.Decide.{askedIn}
 use Rattle.reasoning.specs.Evidence.{impliesb, excludesb, consistentb}
 use Rattle.reasoning.specs.Order.{Only, WritesDocument}
-use Rattle.reasoning.specs.Handed.{Start, ReachWords, startImplication, startAbsence, startConsistency, handedEntries, handedNumbers}
+use Rattle.reasoning.specs.Handed.{
+  Start,
+  ReachWords,
+  startImplication,
+  startBoth,
+  startAbsence,
+  startConsistency,
+  handedEntries,
+  handedNumbers,
+}
 use Rattle.reasoning.proofs.Reachable.{reachable-iff, reachable-small}
 use Rattle.reasoning.proofs.RootPair.{askedIn-iff}
 use Rattle.reasoning.proofs.Writes.{implies-iff, excludes-iff}
@@ -48,7 +57,13 @@ use Rattle.reasoning.proofs.HandedRows.{Begins, one-word}
 use Rattle.reasoning.proofs.Order.{document-unique}
 use Rattle.reasoning.proofs.Handed.{handed-writes}
 use Rattle.reasoning.proofs.Sizes.{parts-few, bytes-few, numbers-few}
-use Rattle.reasoning.proofs.HandedTree.{document-valid, document-stands, stands-breaks-implication, stands-breaks-absence, stands-witnesses}
+use Rattle.reasoning.proofs.HandedTree.{
+  document-valid,
+  document-stands,
+  stands-breaks-implication,
+  stands-breaks-absence,
+  stands-witnesses,
+}
 
 module _ {parent : ℕ → ℕ} {count : ℕ} (desc : Descending parent) (few : count ≤ 64) where
   -- what the document for an implication's no begins with
@@ -110,7 +125,11 @@ module _ {parent : ℕ → ℕ} {count : ℕ} (desc : Descending parent) (few : 
       → ((x : ℕ) → List·Memᴰ x required → 0 < x) → Begins parent count (0 ∷ required) (startConsistency (askedIn required))
   begins-consistency {required} z inTable inner = record {
     goalsIn = needed-goals desc z inTable;
-    word = record { small = asked-small required; is = λ g. Iff·trans (askedIn-iff required (λ x m. omega (arith, inTable x m)) g) (goal g, need g) };
+    word = record {
+      small = asked-small required;
+      is = λ g. Iff·trans (askedIn-iff required (λ x m. omega (arith, inTable x m)) g)
+          (goal g, need g);
+    };
     top = sym (below-zero desc (meet-above desc (List·Memᴰ·head refl)));
     plain = λ g o. single required inner g o;
   }
@@ -129,7 +148,13 @@ module _ {parent : ℕ → ℕ} {count : ℕ} (desc : Descending parent) (few : 
       single : (l : List ℕ) → ((x : ℕ) → List·Memᴰ x l → 0 < x) → (g : ℕ) → Only (0 ∷ l) g → 0 ∷ l ≡ g ∷ []
       single [] h g o = ap (λ (z : ℕ). z ∷ []) (o .alone 0 (List·Memᴰ·head refl))
       single (x ∷ l) h g o =
-          absurd (omega (arith, h x (List·Memᴰ·head refl), o .alone 0 (List·Memᴰ·head refl), o .alone x (List·Memᴰ·tail (List·Memᴰ·head refl))))
+          absurd (omega (
+            arith,
+            h x (List·Memᴰ·head refl),
+            o .alone 0 (List·Memᴰ·head refl),
+            o .alone x
+                (List·Memᴰ·tail (List·Memᴰ·head refl)),
+          ))
 
 module _ {parent : ℕ → ℕ} {rules : List Rule} {count : ℕ} (fits : Fits parent rules count) where
   -- the computed reachable sets are the words from which a document is made
@@ -142,7 +167,8 @@ module _ {parent : ℕ → ℕ} {rules : List Rule} {count : ℕ} (fits : Fits p
   module _ (shallow : (x : ℕ) → x < count → depthOf parent x ≤ 8) where
     -- the computed document is the one written down
     pub document-writes : {goals : List ℕ} {start : Start} → Begins parent count goals start
-        → WritesDocument parent count (reachb parent rules count) (partZero goals) (handedEntries parent count (reachable parent rules count) start)
+        → WritesDocument parent count (reachb parent rules count) (partZero goals)
+        (handedEntries parent count (reachable parent rules count) start)
     unfolding reachb
     document-writes begins = handed-writes (fits .descending) (fits .rulesIn) (fits .few) shallow reachable-words begins
 
@@ -186,9 +212,26 @@ module _ {parent : ℕ → ℕ} {rules : List Rule} {count : ℕ} (fits : Fits p
         let begins = begins-implication desc (fits .few) l in
         let t = tree-exists desc (fits .rulesIn) (reach-decides fits) (begins .goalsIn) in
         let iff = implies-iff fits p q l k in
-        stands-breaks-implication desc (fits .rulesIn) (reach-decides fits) (begins .goalsIn) (begins .plain) (document-writes begins) s (t .1)
+        stands-breaks-implication desc (fits .rulesIn) (reach-decides fits) (begins .goalsIn) (begins .plain) (document-writes begins) s
+        (t .1)
         (implication-no desc (fits .rulesIn) (reach-decides fits) l (contextOf-context desc p q) (λ r. far (iff .1 (inl r)))
         (λ r. far (iff .1 (inr r))) (t .1))
+
+    -- a co-occurrence answered no: the document obeys the rules and breaks the first failing direction
+    pub co-occurrence-document : (p q : ℕ) → p < count → q < count
+        → (T (impliesb parent rules count p q && impliesb parent rules count q p) → ⊥) → (d : Forest)
+        → StandsFor (handedEntries parent count (reachable parent rules count) (startBoth parent rules count p q)) d
+        → BreaksImplication parent rules count p q d
+        ⊎ (T (impliesb parent rules count p q) × BreaksImplication parent rules count q p d)
+    unfolding startBoth
+    co-occurrence-document p q l k far d s = pick (impliesb parent rules count p q) refl
+      where
+        pick : (b : Bool) → impliesb parent rules count p q ≡ b
+            → BreaksImplication parent rules count p q d
+            ⊎ (T (impliesb parent rules count p q) × BreaksImplication parent rules count q p d)
+        pick true e =
+            inr (rw e tt, implication-document q p k l (λ t. far (rw e t)) d (rw (startBoth, e) at s))
+        pick false e = inl (implication-document p q l k (λ t. rw e at t) d (rw (startBoth, e) at s))
 
     -- an absence answered no: the document obeys the rules and breaks the absence
     pub absence-document : (p q : ℕ) → p < count → q < count → (T (excludesb parent rules count p q) → ⊥) → (d : Forest)

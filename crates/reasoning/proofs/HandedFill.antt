@@ -16,8 +16,8 @@ use mathlib.Core.List.{
   Memᴰ·append-right,
 }
 use native.Mathlib.Omega.{arith}
-use lib.Dec.{T, eqb, lit<, T-not, not-T}
-use borrow.Author.Tests.{eqb-true, eqb-false}
+use lib.Dec.{T, eqb, lit<}
+use borrow.Author.Tests.{eqb-true}
 use Rattle.files.specs.Table.{Rule}
 use Rattle.files.specs.Sets.{bit, Has, withPath, withoutPath, difference}
 use Rattle.files.proofs.SetBits.{
@@ -34,12 +34,34 @@ use Rattle.files.proofs.SetBits.{
 use Rattle.files.proofs.SetMembers.{size-le}
 use Rattle.documents.specs.Paths.{Descending, towards}
 use Rattle.documents.proofs.Paths.{towards-below}
-use Rattle.reasoning.specs.Parts.{Part, ReachAny, RulesIn, someb, meetAll, childFor, childForAll, ownKids, coversb, lacksb, fill, kidsOf}
+use Rattle.reasoning.specs.Parts.{
+  Part,
+  ReachAny,
+  RulesIn,
+  someb,
+  meetAll,
+  childFor,
+  childForAll,
+  ownKids,
+  coversb,
+  lacksb,
+  fill,
+  kidsOf,
+}
 use Rattle.reasoning.specs.Handed.{ReachWords, wordReach, highest, reachAll, coverEach, fillWord, kidWord}
 use Rattle.reasoning.proofs.Walks.{reach-refl, reach-end}
-use Rattle.reasoning.proofs.Fill.{Some, someb-some, some-someb}
+use Rattle.reasoning.proofs.Fill.{someb-some, some-someb}
 use Rattle.reasoning.proofs.Kids.{Goals, any-small}
-use Rattle.reasoning.proofs.HandedWords.{has-none, top-absent, members-under, highest-is, gather-small, gather-iff, Given}
+use Rattle.reasoning.proofs.HandedWords.{
+  has-none,
+  has-positive,
+  top-absent,
+  members-under,
+  highest-is,
+  gather-small,
+  gather-iff,
+  Given,
+}
 use Rattle.reasoning.proofs.HandedKids.{
   GoalWord,
   KidBy,
@@ -53,35 +75,9 @@ use Rattle.reasoning.proofs.HandedKids.{
   own-kids,
   covers-word,
   covers-one,
+  lacks-iff,
+  snoc-iff,
 }
-
-module _ (reach : ℕ → ℕ → ℕ → Bool) (a : Part) where
-  -- x gets a child exactly if it is another path, is reached, and no child covers it
-  lacks-iff : (chosen : List Part) (x : ℕ) → T (lacksb reach a chosen x)
-      ↔ ((a .path ≡ x → ⊥) × T (coversb reach a x) × (T (someb (λ k. coversb reach k x) chosen) → ⊥))
-  unfolding lacksb
-  lacks-iff chosen x = pick (eqb (a .path) x) refl (coversb reach a x) refl
-    where
-      pick : (b : Bool) → eqb (a .path) x ≡ b → (t : Bool) → coversb reach a x ≡ t → T (lacksb reach a chosen x)
-          ↔ ((a .path ≡ x → ⊥) × T (coversb reach a x) × (T (someb (λ k. coversb reach k x) chosen) → ⊥))
-      pick true e t f = (λ k. absurd (rw (lacksb, e) at k), λ k. absurd (k .0 (eqb-true (a .path) x e)))
-      pick false e true f = (
-        λ k. (eqb-false (a .path) x e, rw f tt, T-not (someb (λ k. coversb reach k x) chosen) (rw (lacksb, e, f) at k)),
-        λ k. rw (lacksb, e, f) (not-T (someb (λ k. coversb reach k x) chosen) (k .2)),
-      )
-      pick false e false f = (λ k. absurd (rw (lacksb, e, f) at k), λ k. absurd (rw f at (k .1)))
-
--- a test passes on a list with one member more
-snoc-iff : (test : Part → Bool) (l : List Part) (k : Part) → T (someb test (l ++ (k ∷ []))) ↔ (T (someb test l) ⊎ T (test k))
-snoc-iff test l k = (λ t. let s = someb-some test (l ++ (k ∷ [])) t in out s (List·Memᴰ·append-cases l (s .listed)), into)
-  where
-    out : (s : Some test (l ++ (k ∷ []))) → List·Memᴰ (s .member) l ⊎ List·Memᴰ (s .member) (k ∷ []) → T (someb test l) ⊎ T (test k)
-    out s (inl m) = inl (some-someb test (s .member) m (s .passes))
-    out s (inr m) = inr (subst (λ (z : Part). T (test z)) (List·Memᴰ·eq-of-singleton m) (s .passes))
-
-    into : T (someb test l) ⊎ T (test k) → T (someb test (l ++ (k ∷ [])))
-    into (inl t) = let s = someb-some test l t in some-someb test (s .member) (Memᴰ·append-left (k ∷ []) (s .listed)) (s .passes)
-    into (inr t) = some-someb test k (Memᴰ·append-right l (List·Memᴰ·head refl)) t
 
 module _ (parent : ℕ → ℕ) (count : ℕ) (R : ℕ → ℕ → ℕ) where
   -- what the goals' own children cover
@@ -94,8 +90,8 @@ module _ (parent : ℕ → ℕ) (count : ℕ) (R : ℕ → ℕ → ℕ) where
         → T (someb (λ k. coversb (wordReach R) k x) (ownKids parent c goals)) ↔ Has (coverEach parent count R c (withoutPath w c)) x
     unfolding coverEach
     each-covers own x =
-        let r = gather-iff (λ g. R (towards parent c g) g) 64 (withoutPath w c) 0 x (without-lt w c (word .small)) (size-le (withoutPath w c)) in
-        (
+        let r = gather-iff (λ g. R (towards parent c g) g) 64 (withoutPath w c) 0 x (without-lt w c (word .small))
+        (size-le (withoutPath w c)) in (
           λ s.
               let m = someb-some (λ k. coversb (wordReach R) k x) (ownKids parent c goals) s in
               r .1 (inr (out (own (m .member) .0 (m .listed)) (m .passes))),
@@ -122,7 +118,8 @@ module _ (parent : ℕ → ℕ) (count : ℕ) (R : ℕ → ℕ → ℕ) where
           let m = someb-some (λ k. coversb (wordReach R) k x) (ownKids parent c goals) s in
           out (own-kids word {top = top} (onWay n t) (m .member) .0 (m .listed)) (m .passes),
       λ h.
-          some-someb (λ k. coversb (wordReach R) k x) (childForAll parent c goals) (own-kids word {top = top} (onWay n t) _ .1 (all refl refl))
+          some-someb (λ k. coversb (wordReach R) k x) (childForAll parent c goals)
+          (own-kids word {top = top} (onWay n t) _ .1 (all refl refl))
           (covers-word parent R word count (towards parent c (meetAll parent goals)) x .1
           (subst (λ (z : ℕ). Has (reachAll parent count R (towards parent c z) w) x) t h)),
     )
@@ -156,26 +153,38 @@ module _ (parent : ℕ → ℕ) (count : ℕ) (R : ℕ → ℕ → ℕ) where
   pub kid-word-small : (c w top : ℕ) (handed : Bool) → w < 2 ^ 64 → kidWord parent count R c w top handed < 2 ^ 64
   unfolding kidWord
   kid-word-small c w top true l =
-      fill-small c 64 (difference (withoutPath (reachAll parent count R c w) c) (reachAll parent count R (towards parent c top) w)) 0 (lit< tt)
+      fill-small c 64 (difference (withoutPath (reachAll parent count R c w) c) (reachAll parent count R (towards parent c top) w)) 0
+      (lit< tt)
   kid-word-small c w top false l =
       fill-small c 64 (difference (withoutPath (reachAll parent count R c w) c) (coverEach parent count R c (withoutPath w c)))
       (withoutPath w c) (without-lt w c l)
 
-  fill-empty : (c fuel chosen : ℕ) → fillWord parent count R c fuel 0 chosen ≡ chosen
+  -- nothing is left uncovered
+  pub fill-end : (c fuel chosen : ℕ) → fillWord parent count R c fuel 0 chosen ≡ chosen
   unfolding fillWord
-  fill-empty c zero chosen = refl
-  fill-empty c (suc fuel) chosen = refl
+  fill-end c zero chosen = refl
+  fill-end c (suc fuel) chosen = refl
 
-  fill-step : (c fuel left chosen x : ℕ) → highest left ≡ x → Has left x
+  -- the highest path that is left gets a child
+  pub fill-more : (c fuel left chosen : ℕ) → 0 < left
       → fillWord parent count R c (suc fuel) left chosen
-      ≡ fillWord parent count R c fuel (difference left (R (towards parent c x) x)) (withPath chosen x)
+      ≡ fillWord parent count R c fuel (difference left (R (towards parent c (highest left)) (highest left))) (withPath chosen (highest left))
   unfolding fillWord
-  fill-step c fuel left chosen x e h = pick (eqb left 0) refl
+  fill-more c fuel left chosen p = pick (eqb left 0) refl
     where
-      pick : (b : Bool) → eqb left 0 ≡ b → fillWord parent count R c (suc fuel) left chosen
-          ≡ fillWord parent count R c fuel (difference left (R (towards parent c x) x)) (withPath chosen x)
-      pick true f = absurd (has-none (subst (λ (z : ℕ). Has z x) (eqb-true left 0 f) h))
-      pick false f = rw (f, fillWord, e)
+      pick : (b : Bool) → eqb left 0 ≡ b
+          → fillWord parent count R c (suc fuel) left chosen
+          ≡ fillWord parent count R c fuel (difference left (R (towards parent c (highest left)) (highest left)))
+          (withPath chosen (highest left))
+      pick true e = absurd (omega (arith, eqb-true left 0 e))
+      pick false e = rw (fillWord, e)
+
+  -- what is left once x has a child that covers it
+  pub uncovered : (c left x : ℕ) → left < 2 ^ suc x → Has (R (towards parent c x) x) x → difference left (R (towards parent c x) x) < 2 ^ x
+  uncovered c left x l m =
+      let d = difference left (R (towards parent c x) x) in
+      top-absent d x (omega (arith, difference-le left (R (towards parent c x) x)))
+      (bit-absent d x (λ q. not-has (has-difference left (R (towards parent c x) x) x .0 q .1) m))
 
   module _ (few : count ≤ 64) {handed : Bool} (part : Part)
       (itself : (x : ℕ) → x < count → (part .path ≡ x → ⊥) → T (coversb (wordReach R) part x)
@@ -189,11 +198,12 @@ module _ (parent : ℕ → ℕ) (count : ℕ) (R : ℕ → ℕ → ℕ) where
     unfolding fill
     fill-words zero fuel left own chosen f s l inv is k =
         let e : left ≡ 0 = omega arith in
-        rw (e, fill-empty (part .path) fuel own) (is k)
+        rw (e, fill-end (part .path) fuel own) (is k)
     fill-words (suc x) zero left own chosen f s l inv is k = absurd (omega arith)
     fill-words (suc x) (suc fuel) left own chosen f s l inv is k =
         pick (lacksb (wordReach R) part chosen x) refl
-        (λ h i j. fill-words x fuel (difference left (R (towards parent (part .path) x) x)) (withPath own x) (chosen ++ (childFor parent (part .path) x ∷ []))
+        (λ h i j. fill-words x fuel (difference left (R (towards parent (part .path) x) x)) (withPath own x)
+        (chosen ++ (childFor parent (part .path) x ∷ []))
         (omega arith) (omega arith) h i j k)
         (λ h i. fill-words x (suc fuel) left own chosen (omega arith) (omega arith) h i is k)
       where
@@ -201,7 +211,8 @@ module _ (parent : ℕ → ℕ) (count : ℕ) (R : ℕ → ℕ → ℕ) where
         cov j y = coversb (wordReach R) j y
 
         after : (y : ℕ) → y < x
-            → T (lacksb (wordReach R) part (chosen ++ (childFor parent (part .path) x ∷ [])) y) ↔ Has (difference left (R (towards parent (part .path) x) x)) y
+            → T (lacksb (wordReach R) part (chosen ++ (childFor parent (part .path) x ∷ [])) y)
+            ↔ Has (difference left (R (towards parent (part .path) x) x)) y
         after y h = (into, out)
           where
             r : ℕ
@@ -220,39 +231,47 @@ module _ (parent : ℕ → ℕ) (count : ℕ) (R : ℕ → ℕ → ℕ) where
             out m =
                 let d = has-difference left r y .0 m in
                 let p = lacks-iff (wordReach R) part chosen y .0 (inv y (omega arith) .1 (d .0)) in
-                lacks-iff (wordReach R) part (chosen ++ (childFor parent (part .path) x ∷ [])) y .1 (p .0, p .1, λ u. never p (snoc-iff (λ j. cov j y) chosen (childFor parent (part .path) x) .0 u))
+                lacks-iff (wordReach R) part (chosen ++ (childFor parent (part .path) x ∷ [])) y .1
+                (p .0, p .1, λ u. never p (snoc-iff (λ j. cov j y) chosen (childFor parent (part .path) x) .0 u))
               where
                 never : (part .path ≡ y → ⊥) × T (cov part y) × (T (someb (λ j. cov j y) chosen) → ⊥)
                     → T (someb (λ j. cov j y) chosen) ⊎ T (cov (childFor parent (part .path) x) y) → ⊥
                 never p (inl u) = p .2 u
                 never p (inr u) = not-has (has-difference left r y .0 m .1) (covers-one parent R (part .path) x y .0 u)
 
-        more : (j : Part) → List·Memᴰ j (chosen ++ (childFor parent (part .path) x ∷ [])) ↔ KidBy parent (part .path) (part .goals) handed (withPath own x) j
+        more : (j : Part) → List·Memᴰ j (chosen ++ (childFor parent (part .path) x ∷ []))
+            ↔ KidBy parent (part .path) (part .goals) handed (withPath own x) j
         more j = (λ m. into (List·Memᴰ·append-cases chosen m), out)
           where
             wider : KidBy parent (part .path) (part .goals) handed own j → KidBy parent (part .path) (part .goals) handed (withPath own x) j
             wider (all e p) = all e p
             wider (alone h m p) = alone h (has-with own x h (omega arith) .1 (inr m)) p
 
-            into : List·Memᴰ j chosen ⊎ List·Memᴰ j (childFor parent (part .path) x ∷ []) → KidBy parent (part .path) (part .goals) handed (withPath own x) j
+            into : List·Memᴰ j chosen ⊎ List·Memᴰ j (childFor parent (part .path) x ∷ [])
+                → KidBy parent (part .path) (part .goals) handed (withPath own x) j
             into (inl m) = wider (is j .0 m)
             into (inr m) = alone x (has-with own x x (omega arith) .1 (inl refl)) (List·Memᴰ·eq-of-singleton m)
 
-            place : (h : ℕ) → j ≡ childFor parent (part .path) h → (h ≡ x) ⊎ Has own h → List·Memᴰ j (chosen ++ (childFor parent (part .path) x ∷ []))
+            place : (h : ℕ) → j ≡ childFor parent (part .path) h → (h ≡ x) ⊎ Has own h
+                → List·Memᴰ j (chosen ++ (childFor parent (part .path) x ∷ []))
             place h p (inl e) = Memᴰ·append-right chosen (List·Memᴰ·head (p ∙ ap (childFor parent (part .path)) e))
             place h p (inr m) = Memᴰ·append-left (childFor parent (part .path) x ∷ []) (is j .1 (alone h m p))
 
-            out : KidBy parent (part .path) (part .goals) handed (withPath own x) j → List·Memᴰ j (chosen ++ (childFor parent (part .path) x ∷ []))
+            out : KidBy parent (part .path) (part .goals) handed (withPath own x) j
+                → List·Memᴰ j (chosen ++ (childFor parent (part .path) x ∷ []))
             out (all e p) = Memᴰ·append-left (childFor parent (part .path) x ∷ []) (is j .1 (all e p))
             out (alone h m p) = place h p (has-with own x h (omega arith) .0 m)
 
         pick : (b : Bool) → lacksb (wordReach R) part chosen x ≡ b
             → (difference left (R (towards parent (part .path) x) x) < 2 ^ x
             → ((y : ℕ) → y < x
-            → T (lacksb (wordReach R) part (chosen ++ (childFor parent (part .path) x ∷ [])) y) ↔ Has (difference left (R (towards parent (part .path) x) x)) y)
-            → ((j : Part) → List·Memᴰ j (chosen ++ (childFor parent (part .path) x ∷ [])) ↔ KidBy parent (part .path) (part .goals) handed (withPath own x) j)
+            → T (lacksb (wordReach R) part (chosen ++ (childFor parent (part .path) x ∷ [])) y)
+            ↔ Has (difference left (R (towards parent (part .path) x) x)) y)
+            → ((j : Part) → List·Memᴰ j (chosen ++ (childFor parent (part .path) x ∷ []))
+            ↔ KidBy parent (part .path) (part .goals) handed (withPath own x) j)
             → List·Memᴰ k (fill parent (wordReach R) part x (chosen ++ (childFor parent (part .path) x ∷ [])))
-            ↔ KidBy parent (part .path) (part .goals) handed (fillWord parent count R (part .path) fuel (difference left (R (towards parent (part .path) x) x)) (withPath own x)) k)
+            ↔ KidBy parent (part .path) (part .goals) handed
+            (fillWord parent count R (part .path) fuel (difference left (R (towards parent (part .path) x) x)) (withPath own x)) k)
             → (left < 2 ^ x → ((y : ℕ) → y < x → T (lacksb (wordReach R) part chosen y) ↔ Has left y)
             → List·Memᴰ k (fill parent (wordReach R) part x chosen)
             ↔ KidBy parent (part .path) (part .goals) handed (fillWord parent count R (part .path) (suc fuel) left own) k)
@@ -262,11 +281,8 @@ module _ (parent : ℕ → ℕ) (count : ℕ) (R : ℕ → ℕ → ℕ) where
             let t : T (lacksb (wordReach R) part chosen x) = rw e tt in
             let h : Has left x = inv x (omega arith) .0 t in
             let p = lacks-iff (wordReach R) part chosen x .0 t in
-            let m : Has (R (towards parent (part .path) x) x) x = itself x (omega arith) (p .0) (p .1) in
-            let d = difference left (R (towards parent (part .path) x) x) in
-            let gone : bit d x ≡ 0 = bit-absent d x (λ q. not-has (has-difference left (R (towards parent (part .path) x) x) x .0 q .1) m) in
-            let u : d < 2 ^ x = top-absent d x (omega (arith, difference-le left (R (towards parent (part .path) x) x))) gone in
-            rw (fill-step (part .path) fuel left own x (highest-is left x (omega arith) l h) h)
+            let u = uncovered (part .path) left x l (itself x (omega arith) (p .0) (p .1)) in
+            rw (fill-more (part .path) fuel left own (has-positive left x h), highest-is left x (omega arith) l h)
             (rw (e, fill) (add u after more))
         pick false e add skip =
             let gone : bit left x ≡ 0 = bit-absent left x (λ q. rw e at (inv x (omega arith) .1 q)) in
@@ -301,6 +317,12 @@ module _ {parent : ℕ → ℕ} {rules : List Rule} {count : ℕ} {R : ℕ → �
         let r = reached-any x (covers-word parent R word count c x .0 t) in
         let b = towards-below desc (record { below = reach-end (r .reach); other = n }) in
         words .exactly (towards parent c x) x x b l .1 (reach-refl b)
+
+    -- a path that the part reaches, other than its own, is covered by the child that it would get
+    pub reached-itself : (x : ℕ) → Has (withoutPath (reachAll parent count R c w) c) x → Has (R (towards parent c x) x) x
+    reached-itself x h =
+        let r = has-without (reachAll parent count R c w) c x .0 h in
+        itself x (any-small desc within v (reached-any x (r .1))) (λ e. r .0 (sym e)) (covers-word parent R word count c x .1 (r .1))
 
     -- what the part reaches and its own children do not cover
     module _ {top : ℕ} {handed : Bool} (mode : Mode parent c goals top handed) where
@@ -340,9 +362,9 @@ module _ {parent : ℕ → ℕ} {rules : List Rule} {count : ℕ} {R : ℕ → �
           members-under 64 count _
           (difference-lt _ (ownCovers parent count R c w top handed) (without-lt (reachAll parent count R c w) c reached-small)) few
           (λ i h.
-              any-small desc within v
-              (reached-any i (has-without (reachAll parent count R c w) c i .0
-              (has-difference (withoutPath (reachAll parent count R c w) c) (ownCovers parent count R c w top handed) i .0 h .0) .1)))
+          any-small desc within v
+          (reached-any i (has-without (reachAll parent count R c w) c i .0
+          (has-difference (withoutPath (reachAll parent count R c w) c) (ownCovers parent count R c w top handed) i .0 h .0) .1)))
 
       kids-filled : (k : Part) → List·Memᴰ k (kidsOf parent count (wordReach R) (record { path = c; goals = goals }))
           ↔ KidBy parent c goals handed

@@ -7,23 +7,27 @@ use mathlib.Core.List.{
   List,
   [],
   _∷_,
+  _++_,
   List·Memᴰ,
   List·Memᴰ·head,
   List·Memᴰ·tail,
   List·Memᴰ·not-nil,
   List·Memᴰ·cases-cons,
   List·Memᴰ·eq-of-singleton,
+  List·Memᴰ·append-cases,
+  Memᴰ·append-left,
+  Memᴰ·append-right,
 }
-use lib.Dec.{T, eqb}
+use lib.Dec.{T, eqb, T-not, not-T}
 use borrow.Author.Tests.{eqb-true, eqb-false}
 use Rattle.files.specs.Sets.{Has, hasb, withoutPath}
 use Rattle.files.proofs.SetBits.{has-without}
 use Rattle.files.proofs.SetMembers.{size-le}
 use Rattle.documents.specs.Paths.{towards}
-use Rattle.reasoning.specs.Parts.{Part, someb, meetAll, childFor, childForAll, ownEach, ownKids, coversb}
+use Rattle.reasoning.specs.Parts.{Part, someb, meetAll, childFor, childForAll, ownEach, ownKids, coversb, lacksb}
 use Rattle.reasoning.specs.Handed.{wordReach, reachAll}
 use Rattle.reasoning.proofs.Reachable.{T-hasb}
-use Rattle.reasoning.proofs.Fill.{someb-some, some-someb}
+use Rattle.reasoning.proofs.Fill.{Some, someb-some, some-someb}
 use Rattle.reasoning.proofs.HandedWords.{has-none, gather-iff, Given}
 
 -- a word is the set of the goals of a list
@@ -169,8 +173,7 @@ module _ (parent : ℕ → ℕ) (R : ℕ → ℕ → ℕ) where
       → T (coversb (wordReach R) (record { path = c; goals = goals }) x) ↔ Has (reachAll parent count R c w) x
   unfolding coversb reachAll
   covers-word {goals} {w} word count c x =
-      let r = gather-iff (λ g. R c g) 64 w 0 x (word .small) (size-le w) in
-      (
+      let r = gather-iff (λ g. R c g) 64 w 0 x (word .small) (size-le w) in (
         λ t.
             let s = someb-some (λ g. hasb (R c g) x) goals t in
             r .1 (inr (record {
@@ -196,3 +199,31 @@ module _ (parent : ℕ → ℕ) (R : ℕ → ℕ → ℕ) where
         (T-hasb (R (towards parent c h) (s .member)) x .0 (s .passes)),
     λ m. some-someb (λ g. hasb (R (towards parent c h) g) x) h (List·Memᴰ·head refl) (T-hasb (R (towards parent c h) h) x .1 m),
   )
+
+module _ (reach : ℕ → ℕ → ℕ → Bool) (a : Part) where
+  -- x gets a child exactly if it is another path, is reached, and no child covers it
+  pub lacks-iff : (chosen : List Part) (x : ℕ) → T (lacksb reach a chosen x)
+      ↔ ((a .path ≡ x → ⊥) × T (coversb reach a x) × (T (someb (λ k. coversb reach k x) chosen) → ⊥))
+  unfolding lacksb
+  lacks-iff chosen x = pick (eqb (a .path) x) refl (coversb reach a x) refl
+    where
+      pick : (b : Bool) → eqb (a .path) x ≡ b → (t : Bool) → coversb reach a x ≡ t → T (lacksb reach a chosen x)
+          ↔ ((a .path ≡ x → ⊥) × T (coversb reach a x) × (T (someb (λ k. coversb reach k x) chosen) → ⊥))
+      pick true e t f = (λ k. absurd (rw (lacksb, e) at k), λ k. absurd (k .0 (eqb-true (a .path) x e)))
+      pick false e true f = (
+        λ k. (eqb-false (a .path) x e, rw f tt, T-not (someb (λ k. coversb reach k x) chosen) (rw (lacksb, e, f) at k)),
+        λ k. rw (lacksb, e, f) (not-T (someb (λ k. coversb reach k x) chosen) (k .2)),
+      )
+      pick false e false f = (λ k. absurd (rw (lacksb, e, f) at k), λ k. absurd (rw f at (k .1)))
+
+-- a test passes on a list with one member more
+pub snoc-iff : (test : Part → Bool) (l : List Part) (k : Part) → T (someb test (l ++ (k ∷ []))) ↔ (T (someb test l) ⊎ T (test k))
+snoc-iff test l k = (λ t. let s = someb-some test (l ++ (k ∷ [])) t in out s (List·Memᴰ·append-cases l (s .listed)), into)
+  where
+    out : (s : Some test (l ++ (k ∷ []))) → List·Memᴰ (s .member) l ⊎ List·Memᴰ (s .member) (k ∷ []) → T (someb test l) ⊎ T (test k)
+    out s (inl m) = inl (some-someb test (s .member) m (s .passes))
+    out s (inr m) = inr (subst (λ (z : Part). T (test z)) (List·Memᴰ·eq-of-singleton m) (s .passes))
+
+    into : T (someb test l) ⊎ T (test k) → T (someb test (l ++ (k ∷ [])))
+    into (inl t) = let s = someb-some test l t in some-someb test (s .member) (Memᴰ·append-left (k ∷ []) (s .listed)) (s .passes)
+    into (inr t) = some-someb test k (Memᴰ·append-right l (List·Memᴰ·head refl)) t

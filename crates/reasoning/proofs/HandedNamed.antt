@@ -6,7 +6,7 @@ use mathlib.Core.Bool.{Bool, true, false, not, false≢true, true≢false}
 use mathlib.Core.List.{List, [], _∷_, List·Memᴰ, List·Memᴰ·head, List·Memᴰ·eq-of-singleton}
 use native.Mathlib.Decide.{ℕ-discrete}
 use native.Mathlib.Omega.{arith}
-use lib.Dec.{eqb, lit<}
+use lib.Dec.{eqb}
 use borrow.Author.Tests.{eqb-true, eqb-false}
 use Rattle.files.specs.Table.{Rule}
 use Rattle.files.specs.Sets.{Has, lowest, withoutLowest}
@@ -17,12 +17,13 @@ use Rattle.documents.specs.Parts.{Named, given, further, MayStand}
 use Rattle.documents.proofs.Paths.{below-root, below-le, towards-below, towards-unique, parent-strictly, parent-le, parent-fuel}
 use Rattle.reasoning.specs.Parts.{Part, pathOf, RulesIn, meetAll, childFor, childForAll, kidsOf, partZero}
 use Rattle.reasoning.specs.Reachable.{subtree}
+use Rattle.reasoning.specs.Least.{someIn}
 use Rattle.reasoning.specs.Order.{Several, Only}
 use Rattle.reasoning.specs.Handed.{Start, ReachWords, wordReach, severalb, oneKids, chain, allKids, kidsAt, rootGoals}
 use Rattle.reasoning.proofs.Reachable.{subtree-iff}
 use Rattle.reasoning.proofs.Kids.{Goals, kids-are, kid-stands, meet-above}
 use Rattle.reasoning.proofs.Completeness.{named-goals, chain-named}
-use Rattle.reasoning.proofs.HandedWords.{has-none, climb-iff, climb-small}
+use Rattle.reasoning.proofs.HandedWords.{has-none, climb-iff}
 use Rattle.reasoning.proofs.HandedKids.{KidBy, all, alone, Mode, onWay, meeting, single}
 use Rattle.reasoning.proofs.HandedFill.{kid-word}
 use Rattle.reasoning.proofs.HandedRows.{
@@ -57,7 +58,7 @@ pub data HowMany (goals : List ℕ) (w : ℕ) : Type 0 where
 
 module _ {parent : ℕ → ℕ} {count : ℕ} {goals : List ℕ} {start : Start} (begins : Begins parent count goals start) where
   pub how-many : HowMany goals (start .goals)
-  unfolding severalb
+  unfolding severalb someIn
   how-many = pick (eqb (withoutLowest w) 0) refl
     where
       w : ℕ
@@ -85,12 +86,12 @@ module _ {parent : ℕ → ℕ} {count : ℕ} {goals : List ℕ} {start : Start}
               absurd (has-none (subst (λ (z : ℕ). Has z h) e (has-without-lowest w h .1 (n, begins .word .is h .1 m))))
 
       pick : (b : Bool) → eqb (withoutLowest w) 0 ≡ b → HowMany goals w
-      pick true e = unique (rw (severalb, e) refl) (lowest w) (begins .plain (lowest w) (only (eqb-true (withoutLowest w) 0 e)))
+      pick true e = unique (rw (severalb, someIn, e) refl) (lowest w) (begins .plain (lowest w) (only (eqb-true (withoutLowest w) 0 e)))
       pick false e =
           let v = withoutLowest w in
           let m = has-lowest v (omega (arith, eqb-false v 0 e)) (without-lowest-lt w (begins .word .small)) in
           let r = has-without-lowest w (lowest v) .0 m in
-          several (rw (severalb, e) refl) (record {
+          several (rw (severalb, someIn, e) refl) (record {
             one = lowest w;
             other = lowest v;
             oneListed = begins .word .is (lowest w) .0 low;
@@ -101,8 +102,12 @@ module _ {parent : ℕ → ℕ} {count : ℕ} {goals : List ℕ} {start : Start}
   module _ (desc : Descending parent) (few : count ≤ 64) (R : ℕ → ℕ → ℕ) where
     pub top-small : start .top < count
     top-small =
-        omega (arith, begins .top, below-le desc (meet-above desc (begins .goalsIn .listed)),
-        begins .goalsIn .small (begins .goalsIn .some) (begins .goalsIn .listed))
+        omega (
+          arith,
+          begins .top,
+          below-le desc (meet-above desc (begins .goalsIn .listed)),
+          begins .goalsIn .small (begins .goalsIn .some) (begins .goalsIn .listed),
+        )
 
     -- the chain: the paths at or above the goals' context, if the goals are several
     pub chain-iff : (c : ℕ) → Has (chain parent count R start) c ↔ ((severalb (start .goals) ≡ true) × Below parent c (start .top))
@@ -119,14 +124,6 @@ module _ {parent : ℕ → ℕ} {count : ℕ} {goals : List ℕ} {start : Start}
             let r = climb-iff desc (start .top) (start .top) 0 c (omega arith) (omega (arith, top-small)) in
             (λ h. (e, out (r .0 (rw (chain, e) at h))), λ p. rw (chain, e) (r .1 (inr (p .1))))
         pick false e = (λ h. absurd (has-none (rw (chain, e) at h)), λ p. absurd (false≢true (sym e ∙ p .0)))
-
-    pub chain-word : chain parent count R start < 2 ^ 64
-    unfolding chain
-    chain-word = pick (severalb (start .goals)) refl
-      where
-        pick : (b : Bool) → severalb (start .goals) ≡ b → chain parent count R start < 2 ^ 64
-        pick true e = rw (chain, e) (climb-small desc (start .top) (start .top) 0 (lit< tt))
-        pick false e = rw (chain, e) (lit< tt)
 
     -- how a part with all goals hands them on
     mode-of : (c : ℕ) → Mode parent c goals (start .top) (not (eqb c (start .top)))
@@ -204,7 +201,8 @@ module _ {parent : ℕ → ℕ} {rules : List Rule} {count : ℕ} {R : ℕ → �
   root-named : (g : ℕ) → Has (row parent count R start 0) g → NamedPart parent count R goals (onePart 0 g)
   root-named g h = pick (how-many begins) (root-row g zero-in .0 h)
     where
-      pick : HowMany goals (start .goals) → (severalb (start .goals) ≡ false) × Has (start .goals) g → NamedPart parent count R goals (onePart 0 g)
+      pick : HowMany goals (start .goals) → (severalb (start .goals) ≡ false) × Has (start .goals) g
+          → NamedPart parent count R goals (onePart 0 g)
       pick (several e s) r = absurd (true≢false (sym e ∙ r .0))
       pick (unique e f s) r =
           let p : g ≡ f = List·Memᴰ·eq-of-singleton (subst (λ (l : List ℕ). List·Memᴰ g l) s (begins .word .is g .0 (r .1))) in
@@ -226,7 +224,8 @@ module _ {parent : ℕ → ℕ} {rules : List Rule} {count : ℕ} {R : ℕ → �
       (λ f m. row-named-in left (parent c) f (parent-fuel desc c left l) (omega (arith, parent-le desc c)) m)
     where
       kid : 0 < c → Below parent c g → KidGoal parent count R start (parent c) (row parent count R start (parent c)) g
-          → ((f : ℕ) → Has (row parent count R start (parent c)) f → NamedPart parent count R goals (onePart (parent c) f)) → NamedPart parent count R goals (onePart c g)
+          → ((f : ℕ) → Has (row parent count R start (parent c)) f → NamedPart parent count R goals (onePart (parent c) f))
+          → NamedPart parent count R goals (onePart c g)
       kid p b (ofAll q k) again =
           subst (NamedPart parent count R goals) (child-is c g p b)
           (further (allPart (parent c) goals) (all-named q) (kids-of-all q (childFor parent (parent c) g) .1 (alone g k refl)))
@@ -247,7 +246,8 @@ module _ {parent : ℕ → ℕ} {rules : List Rule} {count : ℕ} {R : ℕ → �
   row-named {c} {g} s h = row-named-in c c g (omega arith) s h
 
   -- a child with one goal is in the row of its path
-  kid-found : {c : ℕ} {a k : Part} (h : ℕ) → a .path ≡ c → NamedPart parent count R goals a → List·Memᴰ k (kidsOf parent count (wordReach R) a)
+  kid-found : {c : ℕ} {a k : Part} (h : ℕ) → a .path ≡ c → NamedPart parent count R goals a
+      → List·Memᴰ k (kidsOf parent count (wordReach R) a)
       → k ≡ childFor parent c h → KidGoal parent count R start c (row parent count R start c) h → Found parent count R goals start k
   kid-found {c} {a} {k} h on n m e q =
       let s = kid-may-stand n m in

@@ -3,7 +3,22 @@ use Prim.Native.Nat.{ℕ, zero, suc, _+_, _^_, _≤_, _<_}
 use mathlib.Core.Path.{_≡_, refl, sym, ap, subst, _∙_}
 use mathlib.Core.Logic.{_⊎_, inl, inr, _↔_}
 use mathlib.Core.Bool.{Bool, true, false, _&&_, false≢true}
-use mathlib.Core.List.{List, [], _∷_, _++_, map, List·Memᴰ, List·Memᴰ·head, List·Memᴰ·tail, List·Memᴰ·not-nil, List·Memᴰ·cases-cons, List·Memᴰ·append-cases, List·Memᴰ·eq-of-singleton, Memᴰ·append-left, Memᴰ·append-right}
+use mathlib.Core.List.{
+  List,
+  [],
+  _∷_,
+  _++_,
+  map,
+  List·Memᴰ,
+  List·Memᴰ·head,
+  List·Memᴰ·tail,
+  List·Memᴰ·not-nil,
+  List·Memᴰ·cases-cons,
+  List·Memᴰ·append-cases,
+  List·Memᴰ·eq-of-singleton,
+  Memᴰ·append-left,
+  Memᴰ·append-right,
+}
 use native.Mathlib.Nat.{zero-add}
 use native.Mathlib.Decide.{ℕ-discrete}
 use native.Mathlib.Omega.{arith}
@@ -28,7 +43,7 @@ use Rattle.documents.proofs.Paths.{below-root, depth-root, depth-below}
 use Rattle.reasoning.specs.Parts.{Part}
 use Rattle.reasoning.specs.Order.{NumberedIn, Sorted, Several, Only, Precedes, byDepth, byPath, bySeveral, byGoal}
 use Rattle.reasoning.specs.Handed.{eachOf, onlyIf, layer, layersFrom, pathOrder, childPaths, partsOn, placeOf, numberOf}
-use Rattle.reasoning.proofs.HandedWords.{where-iff, where-small}
+use Rattle.reasoning.proofs.Least.{passing-iff, passing-small}
 use Rattle.reasoning.proofs.HandedRows.{onePart, allPart}
 use Rattle.reasoning.proofs.Sorted.{
   numbered-left,
@@ -51,9 +66,8 @@ module _ (parent : ℕ → ℕ) (count : ℕ) (few : count ≤ 64) where
   pub layer-mem : (d x : ℕ) → List·Memᴰ x (members (layer parent count d)) ↔ ((x < count) × (depthOf parent x ≡ d))
   unfolding layer
   layer-mem d x =
-      let m = mem-members (layer parent count d) x (where-small (λ y. eqb (depthOf parent y) d) count) in
-      let w = where-iff (λ y. eqb (depthOf parent y) d) count x few in
-      (
+      let m = mem-members (layer parent count d) x (passing-small (λ y. eqb (depthOf parent y) d) count) in
+      let w = passing-iff (λ y. eqb (depthOf parent y) d) count x few in (
         λ h. let r = w .0 (m .0 h) in (r .0, eqb→eq (depthOf parent x) d (r .1)),
         λ h. m .1 (w .1 (h .0, subst (λ (z : ℕ). T (eqb z d)) (sym (h .1)) (eqb-refl d))),
       )
@@ -63,15 +77,16 @@ module _ (parent : ℕ → ℕ) (count : ℕ) (few : count ≤ 64) where
   unfolding childPaths
   child-mem c x =
       let test : ℕ → Bool = λ y. ltb 0 y && eqb (parent y) c in
-      let m = mem-members (childPaths parent count c) x (where-small test count) in
-      let w = where-iff test count x few in
-      (
+      let m = mem-members (childPaths parent count c) x (passing-small test count) in
+      let w = passing-iff test count x few in (
         λ h.
             let r = w .0 (m .0 h) in
             (ltb→lt 0 x (and-l (ltb 0 x) (eqb (parent x) c) (r .1)), r .0, eqb→eq (parent x) c (and-r (ltb 0 x) (eqb (parent x) c) (r .1))),
         λ h.
-            m .1 (w .1 (h .1,
-            and-i (ltb 0 x) (eqb (parent x) c) (lt→ltb 0 x (h .0)) (subst (λ (z : ℕ). T (eqb z c)) (sym (h .2)) (eqb-refl c)))),
+            m .1 (w .1 (
+              h .1,
+              and-i (ltb 0 x) (eqb (parent x) c) (lt→ltb 0 x (h .0)) (subst (λ (z : ℕ). T (eqb z c)) (sym (h .2)) (eqb-refl c)),
+            )),
       )
 
   layers-mem : (left d x : ℕ) → List·Memᴰ x (layersFrom parent count left d)
@@ -104,7 +119,8 @@ module _ (parent : ℕ → ℕ) (count : ℕ) (few : count ≤ 64) where
   unfolding layersFrom
   layers-sorted zero d = Sorted.none
   layers-sorted (suc left) d =
-      sorted-append (level (members (layer parent count d)) (λ x m. layer-mem d x .0 m .1) (ascending-sorted (members-ascending (layer parent count d))))
+      sorted-append (level (members (layer parent count d)) (λ x m. layer-mem d x .0 m .1)
+      (ascending-sorted (members-ascending (layer parent count d))))
       (layers-sorted left (suc d))
       (λ x y m n. shallower (omega (arith, layer-mem d x .0 m .1, layers-mem left (suc d) y .0 n .1)))
     where
@@ -179,7 +195,8 @@ module _ (goals : List ℕ) (w c : ℕ) (small : w < 2 ^ 64) where
       into : InBlock goals true w c a → List·Memᴰ a (allPart c goals ∷ map (onePart c) (members w))
       into (all t e) = List·Memᴰ·head e
       into (one g h e) =
-          List·Memᴰ·tail (subst (λ (z : Part). List·Memᴰ z (map (onePart c) (members w))) (sym e) (from-map (onePart c) (mem-members w g small .1 h)))
+          List·Memᴰ·tail (subst (λ (z : Part). List·Memᴰ z (map (onePart c) (members w))) (sym e)
+          (from-map (onePart c) (mem-members w g small .1 h)))
   in-block false a = (
     λ m. let r = map-from (onePart c) (members w) a m in one (r .0) (mem-members w (r .0) small .0 (r .1)) (r .2),
     into,
@@ -201,13 +218,14 @@ module _ (goals : List ℕ) (w c : ℕ) (small : w < 2 ^ 64) where
       ones : Sorted (Precedes parent) (map (onePart c) (members w))
       ones = sorted-map (onePart c) (ascending-sorted (members-ascending w)) (λ g h l. byGoal refl g h (single g) (single h) l)
 
-      pick : (test : Bool) → (test ≡ true → Several goals) → Sorted (Precedes parent) (onlyIf test (allPart c goals) ++ map (onePart c) (members w))
+      pick : (test : Bool) → (test ≡ true → Several goals)
+          → Sorted (Precedes parent) (onlyIf test (allPart c goals) ++ map (onePart c) (members w))
       pick false s = ones
       pick true s =
           Sorted.next
           (λ b m.
-              let r = map-from (onePart c) (members w) b m in
-              subst (λ (z : Part). Precedes parent (allPart c goals) z) (sym (r .2)) (bySeveral refl (s refl) (r .0) (single (r .0))))
+          let r = map-from (onePart c) (members w) b m in
+          subst (λ (z : Part). Precedes parent (allPart c goals) z) (sym (r .2)) (bySeveral refl (s refl) (r .0) (single (r .0))))
           ones
 
 -- the parts of blocks on paths one of which comes before the other

@@ -72,7 +72,8 @@ module _ {parent : ℕ → ℕ} {rules : List Rule} {count : ℕ} {R : ℕ → �
       let r = each-from (blockOn goals (chain parent count R start) (goalRows parent count R start)) (pathOrder parent count) a m in
       let l = order-in-table parent count few (r .source) (r .listed) in
       pick (r .source) l
-      (in-block goals (row parent count R start (r .source)) (r .source) (row-word l) (hasb (chain parent count R start) (r .source)) a .0 (r .member))
+      (in-block goals (row parent count R start (r .source)) (r .source) (row-word l) (hasb (chain parent count R start) (r .source)) a .0
+      (r .member))
     where
       pick : (c : ℕ) → c < count → InBlock goals (hasb (chain parent count R start) c) (row parent count R start c) c a
           → NamedPart parent count R goals a
@@ -98,12 +99,12 @@ module _ {parent : ℕ → ℕ} {rules : List Rule} {count : ℕ} {R : ℕ → �
       pick (many c h e) = (
         placeOf ch rs order c,
         subst (λ (z : Part). NumberedIn (handedParts parent count R goals start) (placeOf ch rs order c) z) (sym e)
-        (number-all goals ch rs order c (in-order (chain-in-table desc within few words begins h)) h),
+            (number-all goals ch rs order c (in-order (chain-in-table desc within few words begins h)) h),
       )
       pick (one c g l h e) = (
         numberOf ch rs order c g,
         subst (λ (z : Part). NumberedIn (handedParts parent count R goals start) (numberOf ch rs order c g) z) (sym e)
-        (number-one goals ch rs order c g (row-word l) (in-order l) h),
+            (number-one goals ch rs order c g (row-word l) (in-order l) h),
       )
 
   -- a path of the chain: the goals are several
@@ -118,8 +119,8 @@ module _ {parent : ℕ → ℕ} {rules : List Rule} {count : ℕ} {R : ℕ → �
   parts-ordered =
       sorted-each (blockOn goals (chain parent count R start) (goalRows parent count R start)) (order-sorted parent count few)
       (λ c m.
-          block-sorted goals (row parent count R start c) c (row-word (order-in-table parent count few c m))
-          (hasb (chain parent count R start) c) (λ t. chain-several (hasb-true (chain parent count R start) c t)))
+      block-sorted goals (row parent count R start c) c (row-word (order-in-table parent count few c m))
+      (hasb (chain parent count R start) c) (λ t. chain-several (hasb-true (chain parent count R start) c t)))
       (λ c d x y e p q m n. blocks-apart e (path-of c p x m) (path-of d q y n))
     where
       path-of : (c : ℕ) → List·Memᴰ c (pathOrder parent count) → (x : Part)
@@ -151,7 +152,7 @@ module _ {parent : ℕ → ℕ} {rules : List Rule} {count : ℕ} {R : ℕ → �
       before a m (bySeveral e s g o) = never a m e (bySeveral e s g o)
       before a m (byGoal e g h o u l) = never a m e (byGoal e g h o u l)
 
-      pick : (n : ℕ) → NumberedIn (handedParts parent count R goals start) n (partZero goals) → Dec (n ≡ 0) → NumberedIn (handedParts parent count R goals start) 0 (partZero goals)
+      pick : (n : ℕ) → NumberedIn (handedParts parent count R goals start) n (partZero goals) → Dec (n ≡ 0)
+          → NumberedIn (handedParts parent count R goals start) 0 (partZero goals)
       pick n m (yes e) = subst (λ (z : ℕ). NumberedIn (handedParts parent count R goals start) z (partZero goals)) e m
       pick n m (no e) = let b = first-of m in absurd (before (b .0) (b .1) (sorted-before parts-ordered (b .1) m (omega arith)))
-

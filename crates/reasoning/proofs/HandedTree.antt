@@ -129,7 +129,8 @@ module _ {parent : ℕ → ℕ} {rules : List Rule} {count : ℕ} {reach : ℕ �
   kid-stands-at b = fits desc within decides v .each (b .from .part) (b .kid) (b .from .named) (b .isKid)
 
   -- a child's number is above its parent part's
-  kid-later : {a k : Part} {n m : ℕ} → NumberedIn (w .parts) n a → NumberedIn (w .parts) m k → MayStand parent count pathOf (a .path) k → n < m
+  kid-later : {a k : Part} {n m : ℕ} → NumberedIn (w .parts) n a → NumberedIn (w .parts) m k → MayStand parent count pathOf (a .path) k
+      → n < m
   kid-later {a} {k} p q s =
       sorted-less precedes-asym (w .ordered) p q
       (byDepth (omega (arith, depth-child desc (k .path) (s .inner), ap (depthOf parent) (s .parent-is))))
@@ -174,7 +175,7 @@ module _ {parent : ℕ → ℕ} {rules : List Rule} {count : ℕ} {reach : ℕ �
         subst (λ (z : List ℕ). Ascending (suc n) z) (sym (kids-at (b .at)))
         (sorted-ascending (ascending-sorted (b .lays .ascending))
         (λ k m. let q = laid-kid n k l (subst (λ (z : List ℕ). List·Memᴰ k z) (sym (kids-at (b .at))) m) in
-            kid-later (q .from .number) (q .number) (kid-stands-at q)));
+        kid-later (q .from .number) (q .number) (kid-stands-at q)));
     below = λ n k l m. omega (arith, numbered-lt (laid-kid n k l m .number), matches-length (w .entries));
     named = λ k p l. let b = laid-under k l in named-by p (b .number) (b .named);
     inner = λ n k l m. let b = laid-kid n k l m in omega (arith, path-of (b .number), kid-stands-at b .inner);

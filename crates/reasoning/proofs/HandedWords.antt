@@ -1,26 +1,34 @@
--- The words from which a document is made: the highest member, the paths that pass a test, what members give gathered, the paths above one.
+-- The words from which a document is made: the highest member, what members give gathered, the paths above one.
 use Prim.Native.Nat.{ℕ, zero, suc, _-_, _/_, _^_, _≤_, _<_}
-use mathlib.Core.Path.{_≡_, refl, sym, subst}
+use mathlib.Core.Path.{_≡_, refl, subst}
 use mathlib.Core.Logic.{_⊎_, inl, inr, _↔_}
 use mathlib.Core.Bool.{Bool, true, false}
 use native.Mathlib.Nat.{div-lt-iff-lt-mul, pow-suc}
 use native.Mathlib.Decide.{decLt, ℕ-discrete}
 use native.Mathlib.Omega.{arith}
-use lib.Dec.{T, eqb, lit<}
+use lib.Dec.{eqb}
 use lib.Pow.{pow-pos}
 use lib.Count.{leading-unique}
 use borrow.Author.Tests.{eqb-true, eqb-false}
 use Rattle.files.specs.Sets.{bit, Has, withPath, union, lowest, withoutLowest, size}
-use Rattle.files.proofs.SetBits.{bit-small, bit-past, bit-of-zero, not-has, has-with, has-union, with-lt, union-lt}
+use Rattle.files.proofs.SetBits.{bit-small, bit-past, bit-of-zero, not-has, has-with, has-union, union-lt}
 use Rattle.files.proofs.SetLowest.{has-lowest, has-without-lowest, without-lowest-lt}
 use Rattle.files.proofs.SetMembers.{size-without-lowest}
 use Rattle.documents.specs.Paths.{Below, same, Descending}
 use Rattle.documents.proofs.Paths.{below-trans, below-step, below-zero, parent-below, parent-fuel, parent-le}
-use Rattle.reasoning.specs.Handed.{highest, pathsWhere, gather, climbAll}
+use Rattle.reasoning.specs.Handed.{highest, gather, climbAll}
 
 -- a set has nothing in common with the empty one
 pub has-none : {i : ℕ} → Has 0 i → ⊥
 has-none {i} h = not-has (bit-of-zero i) h
+
+-- a set that has a path is not empty
+pub has-positive : (w x : ℕ) → Has w x → 0 < w
+has-positive w x h = pick (ℕ-discrete w 0)
+  where
+    pick : Dec (w ≡ 0) → 0 < w
+    pick (yes e) = absurd (has-none (subst (λ (z : ℕ). Has z x) e h))
+    pick (no n) = omega arith
 
 -- a word of x + 1 digits without path x has x digits
 pub top-absent : (w x : ℕ) → w < 2 ^ suc x → bit w x ≡ 0 → w < 2 ^ x
@@ -59,50 +67,6 @@ pub highest-is : (w x : ℕ) → x < 64 → w < 2 ^ suc x → Has w x → highes
 unfolding highest
 highest-is w x l u h =
     omega (arith, leading-unique 64 w (63 - x) (suc x) (omega arith) u (omega (arith, has-power w x h, pow-suc 2 x)))
-
-module _ (test : ℕ → Bool) where
-  pub where-small : (n : ℕ) → pathsWhere test n < 2 ^ 64
-  unfolding pathsWhere
-  where-small zero = lit< tt
-  where-small (suc x) = pick (test x) refl (where-small x)
-    where
-      pick : (b : Bool) → test x ≡ b → pathsWhere test x < 2 ^ 64 → pathsWhere test (suc x) < 2 ^ 64
-      pick true e again = rw (e, pathsWhere) (with-lt (pathsWhere test x) x again)
-      pick false e again = rw (e, pathsWhere) again
-
-  -- the paths below n that pass the test
-  pub where-iff : (n y : ℕ) → n ≤ 64 → Has (pathsWhere test n) y ↔ ((y < n) × T (test y))
-  unfolding pathsWhere
-  where-iff zero y l = (λ h. absurd (has-none h), λ h. absurd (omega (arith, h .0)))
-  where-iff (suc x) y l = pick (test x) refl (where-iff x y (omega arith))
-    where
-      here : test x ≡ true → (y ≡ x) ⊎ Has (pathsWhere test x) y → (Has (pathsWhere test x) y → (y < x) × T (test y))
-          → (y < suc x) × T (test y)
-      here e (inl p) again = (omega arith, subst (λ (z : ℕ). T (test z)) (sym p) (rw e tt))
-      here e (inr h) again = let r = again h in (omega (arith, r .0), r .1)
-
-      there : (y < suc x) × T (test y) → ((y < x) × T (test y) → Has (pathsWhere test x) y) → Dec (y ≡ x)
-          → (y ≡ x) ⊎ Has (pathsWhere test x) y
-      there h again (yes p) = inl p
-      there h again (no p) = inr (again (omega (arith, h .0), h .1))
-
-      out : test x ≡ false → (y < suc x) × T (test y) → ((y < x) × T (test y) → Has (pathsWhere test x) y) → Dec (y ≡ x)
-          → Has (pathsWhere test x) y
-      out e h again (yes p) = absurd (rw e at (subst (λ (z : ℕ). T (test z)) p (h .1)))
-      out e h again (no p) = again (omega (arith, h .0), h .1)
-
-      pick : (b : Bool) → test x ≡ b → Has (pathsWhere test x) y ↔ ((y < x) × T (test y))
-          → Has (pathsWhere test (suc x)) y ↔ ((y < suc x) × T (test y))
-      pick true e again =
-          rw (e, pathsWhere) (
-            λ h. here e (has-with (pathsWhere test x) x y (omega arith) .0 h) (again .0),
-            λ h. has-with (pathsWhere test x) x y (omega arith) .1 (there h (again .1) (ℕ-discrete y x)),
-          )
-      pick false e again =
-          rw (e, pathsWhere) (
-            λ h. let r = again .0 h in (omega (arith, r .0), r .1),
-            λ h. out e h (again .1) (ℕ-discrete y x),
-          )
 
 -- y is among what f gives for a member of w
 pub record Given (f : ℕ → ℕ) (w y : ℕ) : Type 0 where
@@ -176,15 +140,6 @@ module _ (f : ℕ → ℕ) where
           rw (e, gather) (λ k. out (has-lowest w p l) (r .0 k), λ k. r .1 (into k))
 
 module _ {parent : ℕ → ℕ} (desc : Descending parent) where
-  pub climb-small : (fuel x w : ℕ) → w < 2 ^ 64 → climbAll parent fuel x w < 2 ^ 64
-  unfolding climbAll
-  climb-small zero x w l = with-lt w x l
-  climb-small (suc fuel) x w l = pick (eqb x 0) refl (climb-small fuel (parent x) (withPath w x) (with-lt w x l))
-    where
-      pick : (b : Bool) → eqb x 0 ≡ b → climbAll parent fuel (parent x) (withPath w x) < 2 ^ 64 → climbAll parent (suc fuel) x w < 2 ^ 64
-      pick true e again = rw (e, climbAll) (with-lt w 0 l)
-      pick false e again = rw (e, climbAll) again
-
   -- the paths at or above x join
   pub climb-iff : (fuel x w y : ℕ) → x ≤ fuel → x < 64 → Has (climbAll parent fuel x w) y ↔ (Has w y ⊎ Below parent y x)
   unfolding climbAll

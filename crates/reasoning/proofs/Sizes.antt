@@ -108,16 +108,20 @@ module _ {parent : ℕ → ℕ} {rules : List Rule} {count : ℕ} {R : ℕ → �
       (λ c m. let r = layer-mem parent count few depth c .0 m in (deeper c (omega (arith, r .1)), r .1))
       (λ c m t. chain-iff begins desc few R c .0 (hasb-true (chain parent count R start) c t) .1)
       (λ c g m k.
-          let r = layer-mem parent count few depth c .0 m in
-          next-row desc within few words begins c g (deeper c (omega (arith, r .1))) (r .0) .0 k .1)
+      let r = layer-mem parent count few depth c .0 m in
+      next-row desc within few words begins c g (deeper c (omega (arith, r .1))) (r .0) .0 k .1)
 
   layers-few : (left depth : ℕ) → 1 < depth → length (eachOf on (layersFrom parent count left depth)) ≤ left * 64
   unfolding layersFrom eachOf
   layers-few zero depth h = omega arith
   layers-few (suc left) depth h =
-      omega (arith, ap length (each-append on (members (layer parent count depth)) (layersFrom parent count left (suc depth))),
-      length-append (eachOf on (members (layer parent count depth))) (eachOf on (layersFrom parent count left (suc depth))),
-      layer-few depth h, layers-few left (suc depth) (omega arith))
+      omega (
+        arith,
+        ap length (each-append on (members (layer parent count depth)) (layersFrom parent count left (suc depth))),
+        length-append (eachOf on (members (layer parent count depth))) (eachOf on (layersFrom parent count left (suc depth))),
+        layer-few depth h,
+        layers-few left (suc depth) (omega arith),
+      )
 
   parts-split : handedParts parent count R goals start
       ≡ eachOf on (members (layer parent count 1)) ++ eachOf on (layersFrom parent count 7 2)
@@ -130,27 +134,36 @@ module _ {parent : ℕ → ℕ} {rules : List Rule} {count : ℕ} {R : ℕ → �
       (sorted-left (eachOf on (members (layer parent count 1))) (eachOf on (layersFrom parent count 7 2))
       (subst (Sorted (Precedes parent)) parts-split (parts-ordered desc within few shallow words begins)))
       (λ a m.
-          let r = each-from on (members (layer parent count 1)) a m in
-          let l = layer-mem parent count few 1 (r .source) .0 (r .listed) in
-          let b = in-block goals (row parent count R start (r .source)) (r .source)
-          (row-word desc within few shallow words begins (l .0)) (hasb (chain parent count R start) (r .source)) a .0 (r .member) in
-          root-part desc within few shallow words begins
-          (parts-named desc within few shallow words begins a
-          (subst (λ (z : List Part). List·Memᴰ a z) (sym parts-split) (Memᴰ·append-left (eachOf on (layersFrom parent count 7 2)) m)))
-          (block-path b ∙ shallowest (r .source) (l .1)))
+      let r = each-from on (members (layer parent count 1)) a m in
+      let l = layer-mem parent count few 1 (r .source) .0 (r .listed) in
+      let b = in-block goals (row parent count R start (r .source)) (r .source)
+      (row-word desc within few shallow words begins (l .0)) (hasb (chain parent count R start) (r .source)) a .0 (r .member) in
+      root-part desc within few shallow words begins
+      (parts-named desc within few shallow words begins a
+      (subst (λ (z : List Part). List·Memᴰ a z) (sym parts-split) (Memᴰ·append-left (eachOf on (layersFrom parent count 7 2)) m)))
+      (block-path b ∙ shallowest (r .source) (l .1)))
     where
       shallowest : (c : ℕ) → depthOf parent c ≡ 1 → c ≡ 0
       shallowest zero e = refl
       shallowest (suc c) e =
-          absurd (omega (arith, depth-child desc (suc c) (omega arith), depth-root desc,
-          depth-below desc (below-root desc (parent (suc c)))))
+          absurd (omega (
+            arith,
+            depth-child desc (suc c) (omega arith),
+            depth-root desc,
+            depth-below desc (below-root desc (parent (suc c))),
+          ))
 
   -- a document handed back has at most 449 parts
   pub parts-few : length (handedEntries parent count R start) ≤ 449
   parts-few =
-      omega (arith, matches-length (entries-lay desc within few shallow words begins), ap length parts-split,
-      length-append (eachOf on (members (layer parent count 1))) (eachOf on (layersFrom parent count 7 2)), first-few,
-      layers-few 7 2 (omega arith))
+      omega (
+        arith,
+        matches-length (entries-lay desc within few shallow words begins),
+        ap length parts-split,
+        length-append (eachOf on (members (layer parent count 1))) (eachOf on (layersFrom parent count 7 2)),
+        first-few,
+        layers-few 7 2 (omega arith),
+      )
 
   -- ---- the children
 
@@ -165,30 +178,34 @@ module _ {parent : ℕ → ℕ} {rules : List Rule} {count : ℕ} {R : ℕ → �
   only-member false b m = absurd (List·Memᴰ·not-nil m)
 
   kids-few : (c : ℕ) (handed : Bool) (w : ℕ)
-      → length (entryOn parent count R start (chain parent count R start) (goalRows parent count R start) (pathOrder parent count) c handed w .kids)
+      → length (entryOn parent count R start (chain parent count R start) (goalRows parent count R start)
+      (pathOrder parent count) c handed w .kids)
       ≤ 64
   unfolding entryOn kidsOn block
   kids-few c handed w =
-      omega (arith,
-      each-length
-      (kidsOn parent count R start (chain parent count R start) (goalRows parent count R start) (pathOrder parent count) handed w)
-      (λ k. block goals (handed && hasb (chain parent count R start) k) (common w (subtree parent count k)) k)
-      (members (childPaths parent count c)) same,
-      blocks-few desc goals (λ k. handed && hasb (chain parent count R start) k) (λ k. common w (subtree parent count k)) (start .top)
-      (suc (depthOf parent c)) (ascending-sorted (members-ascending (childPaths parent count c)))
-      (λ k m.
-          let r = child-mem parent count few c k .0 m in
-          (r .0, depth-child desc k (r .0) ∙ ap (λ (z : ℕ). suc (depthOf parent z)) (r .2)))
-      (λ k m t. chain-iff begins desc few R k .0 (hasb-true (chain parent count R start) k (second handed k t)) .1)
-      (λ k g m h.
-          subtree-iff desc k count (child-mem parent count few c k .0 m .1) few g .0 (has-common w (subtree parent count k) g .0 h .1) .1))
+      omega (
+        arith,
+        each-length
+            (kidsOn parent count R start (chain parent count R start) (goalRows parent count R start) (pathOrder parent count) handed w)
+            (λ k. block goals (handed && hasb (chain parent count R start) k) (common w (subtree parent count k)) k)
+            (members (childPaths parent count c)) same,
+        blocks-few desc goals (λ k. handed && hasb (chain parent count R start) k) (λ k. common w (subtree parent count k)) (start .top)
+            (suc (depthOf parent c)) (ascending-sorted (members-ascending (childPaths parent count c)))
+            (λ k m.
+            let r = child-mem parent count few c k .0 m in
+            (r .0, depth-child desc k (r .0) ∙ ap (λ (z : ℕ). suc (depthOf parent z)) (r .2)))
+            (λ k m t. chain-iff begins desc few R k .0 (hasb-true (chain parent count R start) k (second handed k t)) .1)
+            (λ k g m h.
+            subtree-iff desc k count (child-mem parent count few c k .0 m .1) few g .0 (has-common w (subtree parent count k) g .0 h .1) .1),
+      )
     where
       second : (b : Bool) (k : ℕ) → b && hasb (chain parent count R start) k ≡ true → hasb (chain parent count R start) k ≡ true
       second true k e = e
       second false k e = absurd (false≢true e)
 
       same : (k : ℕ)
-          → length (kidsOn parent count R start (chain parent count R start) (goalRows parent count R start) (pathOrder parent count) handed w k)
+          → length (kidsOn parent count R start (chain parent count R start) (goalRows parent count R start)
+          (pathOrder parent count) handed w k)
           ≡ length (block goals (handed && hasb (chain parent count R start) k) (common w (subtree parent count k)) k)
       same k =
           let ns = map (numberOf (chain parent count R start) (goalRows parent count R start) (pathOrder parent count) k)
@@ -196,10 +213,15 @@ module _ {parent : ℕ → ℕ} {rules : List Rule} {count : ℕ} {R : ℕ → �
           let ps = map (onePart k) (members (common w (subtree parent count k))) in
           let b = handed && hasb (chain parent count R start) k in
           let place = placeOf (chain parent count R start) (goalRows parent count R start) (pathOrder parent count) k in
-          omega (arith, length-append (onlyIf b place) ns, length-append (onlyIf b (allPart k goals)) ps, only-length b place (allPart k goals),
-          length-map (members (common w (subtree parent count k)))
-          (numberOf (chain parent count R start) (goalRows parent count R start) (pathOrder parent count) k),
-          length-map (members (common w (subtree parent count k))) (onePart k))
+          omega (
+            arith,
+            length-append (onlyIf b place) ns,
+            length-append (onlyIf b (allPart k goals)) ps,
+            only-length b place (allPart k goals),
+            length-map (members (common w (subtree parent count k)))
+                (numberOf (chain parent count R start) (goalRows parent count R start) (pathOrder parent count) k),
+            length-map (members (common w (subtree parent count k))) (onePart k),
+          )
 
   -- an entry is on a path of the table and has at most 64 children
   record SmallEntry (e : Entry) : Type 0 where
@@ -240,10 +262,18 @@ module _ {parent : ℕ → ℕ} {rules : List Rule} {count : ℕ} {R : ℕ → �
   parts-bytes [] h = omega (arith, bytes-none)
   parts-bytes (e ∷ es) h =
       let s = h e (List·Memᴰ·head refl) in
-      omega (arith, s .path, s .kids, bytes-more (e .path) (length (e .kids) ∷ (e .kids ++ partNumbers es)),
-      bytes-more (length (e .kids)) (e .kids ++ partNumbers es), bytes-append (e .kids) (partNumbers es),
-      number-short (e .path) (omega (arith, s .path)), number-short (length (e .kids)) (omega (arith, s .kids)), kids-bytes (e .kids),
-      parts-bytes es (λ x m. h x (List·Memᴰ·tail m)))
+      omega (
+        arith,
+        s .path,
+        s .kids,
+        bytes-more (e .path) (length (e .kids) ∷ (e .kids ++ partNumbers es)),
+        bytes-more (length (e .kids)) (e .kids ++ partNumbers es),
+        bytes-append (e .kids) (partNumbers es),
+        number-short (e .path) (omega (arith, s .path)),
+        number-short (length (e .kids)) (omega (arith, s .kids)),
+        kids-bytes (e .kids),
+        parts-bytes es (λ x m. h x (List·Memᴰ·tail m)),
+      )
 
   kid-numbers : (e : Entry) → List·Memᴰ e (handedEntries parent count R start) → (n : ℕ) → List·Memᴰ n (e .kids) → n < 449
   kid-numbers e m n k =

@@ -187,8 +187,8 @@ module _ {A B : Type 0} where
         sorted-append (h a (List·Memᴰ·head refl))
         (sorted-each f s (λ b m. h b (List·Memᴰ·tail m)) (λ b c x y r p q. k b c x y r (List·Memᴰ·tail p) (List·Memᴰ·tail q)))
         (λ x y p q.
-            let r = each-from f l y q in
-            k a (r .source) x y (e (r .source) (r .listed)) (List·Memᴰ·head refl) (List·Memᴰ·tail (r .listed)) p (r .member))
+        let r = each-from f l y q in
+        k a (r .source) x y (e (r .source) (r .listed)) (List·Memᴰ·head refl) (List·Memᴰ·tail (r .listed)) p (r .member))
 
 module _ {A B : Type 0} {Fit : A → B → Type 0} where
   pub matches-append : {l m : List A} {s t : List B} → Matches Fit l s → Matches Fit m t → Matches Fit (l ++ m) (s ++ t)

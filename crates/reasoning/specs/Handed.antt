@@ -27,6 +27,8 @@ use Rattle.documents.specs.Paths.{Below, contextOf, towards, depthOf}
 use Rattle.documents.specs.PartList.{Entry, documentNumbers}
 use Rattle.reasoning.specs.Walk.{Reach}
 use Rattle.reasoning.specs.Reachable.{subtree}
+use Rattle.reasoning.specs.Least.{passing, someIn}
+use Rattle.reasoning.specs.Evidence.{impliesb}
 
 -- R gives, for a path c and a path x of the table below it, the set of the paths reachable from x inside c
 pub record ReachWords (parent : ℕ → ℕ) (rules : List Rule) (count : ℕ) (R : ℕ → ℕ → ℕ) : Type 0 where
@@ -40,13 +42,6 @@ wordReach R c x y = hasb (R c x) y
 -- the greatest path of a set that is not empty
 unfoldable pub highest : ℕ → ℕ
 highest w = 63 - leadingZeros 64 w
-
--- the paths below n that pass a test
-unfoldable pub pathsWhere : (test : ℕ → Bool) (n : ℕ) → ℕ
-pathsWhere test zero = 0
-pathsWhere test (suc x) =
-    let w = pathsWhere test x in
-    elim (test x) [ true ↦ withPath w x | false ↦ w ]
 
 -- what f gives for the members of the set w joins the set s, lowest member first
 unfoldable pub gather : (f : ℕ → ℕ) (fuel w s : ℕ) → ℕ
@@ -78,6 +73,10 @@ pub record Start : Type 0 where
 abbrev pub startImplication : (p : ℕ) → Start
 startImplication p = record { goals = withPath 0 p; top = p }
 
+-- for a co-occurrence's no: the first failing direction
+unfoldable pub startBoth : (parent : ℕ → ℕ) (rules : List Rule) (count p q : ℕ) → Start
+startBoth parent rules count p q = elim (impliesb parent rules count p q) [ true ↦ startImplication q | false ↦ startImplication p ]
+
 -- for an absence's no: both goals; equal goals count as one
 abbrev pub startAbsence : (parent : ℕ → ℕ) (p q : ℕ) → Start
 startAbsence parent p q = record { goals = withPath (withPath 0 q) p; top = contextOf parent p q }
@@ -86,9 +85,17 @@ startAbsence parent p q = record { goals = withPath (withPath 0 q) p; top = cont
 abbrev pub startConsistency : (asked : ℕ) → Start
 startConsistency asked = record { goals = asked; top = 0 }
 
+-- for a question's no: kind 1 implication, 2 absence, 3 co-occurrence of p and q
+unfoldable pub startNo : (parent : ℕ → ℕ) (rules : List Rule) (count kind p q : ℕ) → Start
+startNo parent rules count kind p q =
+    elim (eqb kind 1) [
+      | true ↦ startImplication p
+      | false ↦ elim (eqb kind 2) [ true ↦ startAbsence parent p q | false ↦ startBoth parent rules count p q ]
+    ]
+
 -- whether there are several goals
 unfoldable pub severalb : (goals : ℕ) → Bool
-severalb goals = not (eqb (withoutLowest goals) 0)
+severalb goals = someIn (withoutLowest goals)
 
 module _ (parent : ℕ → ℕ) (count : ℕ) (R : ℕ → ℕ → ℕ) where
   -- what is reachable inside c from any of the goals
@@ -156,7 +163,7 @@ module _ (parent : ℕ → ℕ) (count : ℕ) (R : ℕ → ℕ → ℕ) where
 
 -- the paths of a depth
 unfoldable pub layer : (parent : ℕ → ℕ) (count depth : ℕ) → ℕ
-layer parent count depth = pathsWhere (λ x. eqb (depthOf parent x) depth) count
+layer parent count depth = passing (λ x. eqb (depthOf parent x) depth) count
 
 -- the paths of `left` depths from a depth on: by depth, then number
 unfoldable pub layersFrom : (parent : ℕ → ℕ) (count left depth : ℕ) → List ℕ
@@ -169,7 +176,7 @@ pathOrder parent count = layersFrom parent count 8 1
 
 -- the child paths of c
 unfoldable pub childPaths : (parent : ℕ → ℕ) (count c : ℕ) → ℕ
-childPaths parent count c = pathsWhere (λ x. ltb 0 x && eqb (parent x) c) count
+childPaths parent count c = passing (λ x. ltb 0 x && eqb (parent x) c) count
 
 module _ (chain : ℕ) (rows : List ℕ) where
   -- how many parts are on path c

@@ -1,4 +1,5 @@
 pub mod Arrays
+pub mod Calls
 pub mod Decide
 pub mod Emit
 pub mod Evidence
@@ -14,3 +15,5 @@ pub mod Search
 pub mod Walk
 pub mod Writer
 pub mod Written
+pub mod Examples
+pub mod Graph

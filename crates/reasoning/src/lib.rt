@@ -1,6 +1,8 @@
 // Walks, dead paths, evidence, and the documents handed back.
+pub mod consistency;
 pub(crate) mod document;
 pub(crate) mod goals;
 pub(crate) mod numbering;
+pub mod question;
 pub(crate) mod reach;
 pub(crate) mod steps;
