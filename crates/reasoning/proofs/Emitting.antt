@@ -1,41 +1,21 @@
 -- Laws of numbers emitted one after the other: what is emitted and what remains, the numbers of children, of parts, of all paths.
-use Prim.Native.Nat.{ℕ, zero, suc, _+_, _-_, _%_, _^_, _≤_, _<_}
+use Prim.Native.Nat.{ℕ, _+_, _%_, _^_, _≤_, _<_}
 use mathlib.Core.Path.{_≡_, refl, sym, ap, _∙_, subst}
-use mathlib.Core.Bool.{Bool, true, false, _&&_}
+use mathlib.Core.Bool.{Bool, true, false}
 use mathlib.Core.List.{List, [], _∷_, _++_, append-assoc, append-nil}
 use native.Mathlib.Omega.{arith}
-use native.Mathlib.Nat.{add-zero}
-use native.Mathlib.Numerals.{add-one}
 use lib.ListN.{length, getD, length-append}
 use lib.Seq.{sets}
 use Rattle.files.specs.Number.{limit, bytesOf, bytesOfAll}
 use Rattle.files.specs.Writing.{wrapped}
 use Rattle.files.specs.Sets.{bit, hasb, common, lowest, withoutLowest, sizeBelow, size, members}
 use Rattle.files.proofs.Stores.{sets-append}
-use Rattle.files.proofs.SetBits.{hasb-true, hasb-false, has-under}
+use Rattle.files.proofs.SetBits.{has-under}
 use Rattle.files.proofs.SetLowest.{has-lowest, without-lowest-less}
-use Rattle.files.proofs.SetMembers.{size-members, members-take, members-of-zero}
+use Rattle.files.proofs.SetMembers.{members-take, members-of-zero}
 use Rattle.reasoning.specs.Reachable.{subtree}
-use Rattle.reasoning.specs.Arrays.{parentOf}
-use Rattle.reasoning.specs.Known.{DepthsIn}
-use Rattle.reasoning.specs.Handed.{Start, eachOf, onlyIf, allKids, oneKids, layer, layersFrom, pathOrder, childPaths}
-use Rattle.reasoning.specs.Emit.{
-  sizeOf,
-  storing,
-  Room,
-  Emitted,
-  layerIn,
-  numberIn,
-  oneNumber,
-  wholeNumber,
-  kidsUnder,
-  kidsIn,
-  partIn,
-  onePartIn,
-  wholePartIn,
-  partsNumbers,
-}
-use Rattle.reasoning.proofs.Sizes.{each-append}
+use Rattle.reasoning.specs.Handed.{eachOf, onlyIf, childPaths}
+use Rattle.reasoning.specs.Emit.{sizeOf, storing, Room, Emitted, numberIn, oneNumber, wholeNumber, kidsUnder, kidsIn}
 
 -- ---- what is emitted, and what remains
 
@@ -85,8 +65,8 @@ module _ (store : Bool) (rest out : List ℕ) (at : ℕ) (all out₀ : List ℕ)
       record {
         place = omega (arith, ap sizeOf e, size-append xs ys, left .place, m .place);
         buffer =
-          rw (m .buffer, m .place)
-          (sym (storing-append store xs ys out at) ∙ ap (λ (l : List ℕ). storing store l out at) (sym e) ∙ left .buffer);
+            rw (m .buffer, m .place)
+            (sym (storing-append store xs ys out at) ∙ ap (λ (l : List ℕ). storing store l out at) (sym e) ∙ left .buffer);
         room = left .room;
       }
 
@@ -115,9 +95,9 @@ module _ (store : Bool) (all xs ys : List ℕ) (at : ℕ) (e : all ≡ xs ++ ys)
         record {
           place = omega (arith, n .place, m .place, ap sizeOf e, size-append xs ys);
           buffer =
-            n .buffer
-            ∙ rw (m .buffer, m .place) (sym (storing-append store xs ys out at))
-            ∙ ap (λ (l : List ℕ). storing store l out at) (sym e);
+              n .buffer
+              ∙ rw (m .buffer, m .place) (sym (storing-append store xs ys out at))
+              ∙ ap (λ (l : List ℕ). storing store l out at) (sym e);
         }
 
 -- ---- a number

@@ -1,13 +1,13 @@
 -- Laws of the parts emitted: a part's child count, its numbers, the parts on a path, and those on all paths by depth.
-use Prim.Native.Nat.{ℕ, zero, suc, _+_, _*_, _-_, _^_, _≤_, _<_}
-use mathlib.Core.Path.{_≡_, refl, sym, ap, _∙_, subst}
-use mathlib.Core.Bool.{Bool, true, false, _&&_}
+use Prim.Native.Nat.{ℕ, suc, _+_, _*_, _-_, _^_, _≤_, _<_}
+use mathlib.Core.Path.{_≡_, refl, sym, ap, _∙_}
+use mathlib.Core.Bool.{Bool, true, false}
 use mathlib.Core.List.{List, [], _∷_, _++_}
 use native.Mathlib.Omega.{arith}
 use native.Mathlib.Numerals.{add-one}
 use lib.ListN.{length, getD, length-append}
 use Rattle.files.specs.Sets.{bit, hasb, common, lowest, withoutLowest, size, members}
-use Rattle.files.proofs.SetBits.{hasb-true, hasb-false, bit-small}
+use Rattle.files.proofs.SetBits.{hasb-true, hasb-false}
 use Rattle.files.proofs.SetMembers.{size-le, size-members, size-without-lowest}
 use Rattle.reasoning.specs.Reachable.{subtree}
 use Rattle.reasoning.specs.Handed.{Start, eachOf, onlyIf, allKids, oneKids, layer, layersFrom, pathOrder, childPaths}
@@ -66,20 +66,24 @@ module _ (whole : ℕ) (places : List ℕ) (handed : Bool) (k : ℕ) where
 
 pub ruleset counted-laws = (whole-counted, whole-none)
 
-whole-same : (whole : ℕ) (rows places : List ℕ) (handed : Bool) (k : ℕ)
+whole-same : (whole : ℕ) (places : List ℕ) (handed : Bool) (k : ℕ)
     → length (wholeNumber whole places handed k) ≡ length (wholeNumber whole [] handed k)
-whole-same whole rows places true k =
+whole-same whole places true k =
     sym (whole-counted whole places true k (bit whole k) refl refl) ∙ whole-counted whole [] true k (bit whole k) refl refl
-whole-same whole rows places false k = sym (whole-none whole places false k refl) ∙ whole-none whole [] false k refl
+whole-same whole places false k = sym (whole-none whole places false k refl) ∙ whole-none whole [] false k refl
 
 under-length : (parent : ℕ → ℕ) (count whole : ℕ) (rows places : List ℕ) (handed : Bool) (w k : ℕ)
     → length (kidsUnder parent count whole rows places handed w k)
     ≡ length (wholeNumber whole [] handed k) + size (common w (subtree parent count k))
 unfolding kidsUnder
 under-length parent count whole rows places handed w k =
-    omega (arith, length-append (wholeNumber whole places handed k) (eachOf (oneNumber whole rows places k) (members (common w (subtree parent count k)))),
-    whole-same whole rows places handed k, ones-length whole rows places k (members (common w (subtree parent count k))),
-    size-members (common w (subtree parent count k)))
+    omega (
+      arith,
+      length-append (wholeNumber whole places handed k) (eachOf (oneNumber whole rows places k) (members (common w (subtree parent count k)))),
+      whole-same whole places handed k,
+      ones-length whole rows places k (members (common w (subtree parent count k))),
+      size-members (common w (subtree parent count k)),
+    )
 
 pub under-counted : (parent : ℕ → ℕ) (count whole : ℕ) (handed : Bool) (w k s goals n m : ℕ) → s ≡ subtree parent count k → goals ≡ common w s
     → n ≡ length (wholeNumber whole [] handed k) → m ≡ size goals → n + m ≡ length (kidsUnder parent count whole [] [] handed w k)
@@ -92,10 +96,14 @@ kids-same : (parent : ℕ → ℕ) (count whole : ℕ) (rows places : List ℕ) 
 unfolding eachOf
 kids-same parent count whole rows places handed w [] = refl
 kids-same parent count whole rows places handed w (k ∷ l) =
-    omega (arith, length-append (kidsUnder parent count whole rows places handed w k) (eachOf (kidsUnder parent count whole rows places handed w) l),
-    length-append (kidsUnder parent count whole [] [] handed w k) (eachOf (kidsUnder parent count whole [] [] handed w) l),
-    under-length parent count whole rows places handed w k, under-length parent count whole [] [] handed w k,
-    kids-same parent count whole rows places handed w l)
+    omega (
+      arith,
+      length-append (kidsUnder parent count whole rows places handed w k) (eachOf (kidsUnder parent count whole rows places handed w) l),
+      length-append (kidsUnder parent count whole [] [] handed w k) (eachOf (kidsUnder parent count whole [] [] handed w) l),
+      under-length parent count whole rows places handed w k,
+      under-length parent count whole [] [] handed w k,
+      kids-same parent count whole rows places handed w l,
+    )
 
 pub kids-length : (parent : ℕ → ℕ) (count whole : ℕ) (rows places : List ℕ) (c : ℕ) (handed : Bool) (w : ℕ)
     → length (kidsIn parent count whole rows places c handed w) ≡ length (kidsIn parent count whole [] [] c handed w)

@@ -1,21 +1,21 @@
 -- Laws of the goals of parts as the code works them out: look-ups, gathering, children's goals, and the goals on every path.
-use Prim.Native.Nat.{ℕ, zero, suc, _+_, _-_, _^_, _≤_, _<_}
+use Prim.Native.Nat.{ℕ, suc, _+_, _-_, _^_, _≤_, _<_}
 use mathlib.Core.Path.{_≡_, refl, sym, ap, _∙_, subst}
-use mathlib.Core.Bool.{Bool, true, false, not, _&&_}
+use mathlib.Core.Bool.{Bool, true, false, not}
 use mathlib.Core.List.{List, [], _∷_, _++_, append-assoc, append-nil}
 use native.Mathlib.Omega.{arith}
 use native.Mathlib.Numerals.{add-one}
-use lib.Count.{leadingZeros, leading-le, leading-top}
+use lib.Count.{leadingZeros, leading-top}
 use lib.Dec.{eqb}
 use lib.ListN.{length, getD, set, replicate, length-append}
-use borrow.Author.Tests.{lt-ltb, le-ltb, eq-eqb, ne-eqb, eqb-true, eqb-false}
+use borrow.Author.Tests.{lt-ltb, le-ltb, eq-eqb, ne-eqb}
 use Rattle.files.specs.Rules.{padded}
-use Rattle.files.specs.Sets.{hasb, withPath, withoutPath, union, common, difference, lowest, withoutLowest, size}
-use Rattle.files.proofs.Padded.{padded-get, padded-length, padded-none, padded-store}
-use Rattle.files.proofs.SetLowest.{lowest-lt, without-lowest-less, without-lowest-lt}
-use Rattle.files.proofs.SetMembers.{size-le, size-without-lowest}
+use Rattle.files.specs.Sets.{hasb, withPath, withoutPath, union, common, difference, lowest, withoutLowest}
+use Rattle.files.proofs.Padded.{padded-get, padded-none, padded-store}
+use Rattle.files.proofs.SetLowest.{lowest-lt, without-lowest-less}
 use Rattle.documents.specs.Paths.{climbUnder, towards}
 use Rattle.reasoning.specs.Reachable.{subtree}
+use Rattle.reasoning.specs.Least.{someIn}
 use Rattle.reasoning.specs.Known.{lookup, Placed}
 use Rattle.reasoning.specs.Handed.{
   Start,
@@ -37,6 +37,7 @@ use Rattle.reasoning.specs.Handed.{
   goalRows,
 }
 use Rattle.reasoning.specs.Writer.{wordFor, Tabled, startOf, chainOf, rootOf, goalsHere}
+use Rattle.reasoning.proofs.HandedLoops.{gather-end, gather-step}
 
 -- ---- reachable words of the table's paths
 
@@ -101,26 +102,6 @@ pub ruleset towards-laws = (towards-start, towards-here, towards-on, towards-end
 
 -- ---- gathering over the members of a set
 
--- with fuel enough, more fuel changes nothing
-gather-more : (f : ℕ → ℕ) (fuel w s : ℕ) → w < 2 ^ 64 → size w ≤ fuel → gather f fuel w s ≡ gather f (suc fuel) w s
-unfolding gather
-gather-more f zero w s l h = pick (eqb w 0) refl
-  where
-    pick : (t : Bool) → eqb w 0 ≡ t → gather f zero w s ≡ gather f (suc zero) w s
-    pick true e = rw (e, gather)
-    pick false e = absurd (omega (arith, size-without-lowest w (omega (arith, eqb-false w 0 e)) l))
-gather-more f (suc fuel) w s l h =
-    pick (eqb w 0) refl (λ k m. gather-more f fuel (withoutLowest w) (union s (f (lowest w))) m k)
-  where
-    pick : (t : Bool) → eqb w 0 ≡ t
-        → (size (withoutLowest w) ≤ fuel → withoutLowest w < 2 ^ 64
-        → gather f fuel (withoutLowest w) (union s (f (lowest w))) ≡ gather f (suc fuel) (withoutLowest w) (union s (f (lowest w))))
-        → gather f (suc fuel) w s ≡ gather f (suc (suc fuel)) w s
-    pick true e again = rw (gather, e)
-    pick false e again =
-        rw (gather, e)
-        (again (omega (arith, size-without-lowest w (omega (arith, eqb-false w 0 e)) l)) (without-lowest-lt w l))
-
 module _ (left : ℕ) (some : left ≡ 0 → ⊥) (fits : left < 2 ^ 64) where
   pub gather-low : (x : ℕ) → x ≡ lowest left → x < 64
   gather-low x e = omega (arith, lowest-lt left (omega (arith, some)) fits)
@@ -134,24 +115,17 @@ module _ (left : ℕ) (some : left ≡ 0 → ⊥) (fits : left < 2 ^ 64) where
 
     pub gather-on : (f : ℕ → ℕ) (all x u r v : ℕ) → gather f 64 left all ≡ v → x ≡ lowest left → u ≡ f x → r ≡ union all u
         → gather f 64 next r ≡ v
-    unfolding gather
-    gather-on f all x u r v inv e g h =
-        let opened : gather f 63 (withoutLowest left) (union all (f (lowest left))) ≡ v = rw (gather, ne-eqb left 0 some) at inv in
-        let less : size (withoutLowest left) ≤ 63 =
-          omega (arith, size-without-lowest left (omega (arith, some)) fits, size-le left) in
-        rw (h, g, e, n)
-        (sym (gather-more f 63 (withoutLowest left) (union all (f (lowest left))) (without-lowest-lt left fits) less) ∙ opened)
+    gather-on f all x u r v inv e g h = rw (h, g, e, n) (sym (gather-step f left all (omega (arith, some)) fits) ∙ inv)
 
-pub gather-end : (f : ℕ → ℕ) (left all v : ℕ) → gather f 64 left all ≡ v → left ≡ 0 → all ≡ v
-unfolding gather
-gather-end f left all v inv e = rw (gather, eq-eqb left 0 e) at inv
+pub gather-none : (f : ℕ → ℕ) (left all v : ℕ) → gather f 64 left all ≡ v → left ≡ 0 → all ≡ v
+gather-none f left all v inv e = sym (gather-end f 64 all) ∙ ap (λ (w : ℕ). gather f 64 w all) (sym e) ∙ inv
 
 pub cover-start : (parent : ℕ → ℕ) (count : ℕ) (R : ℕ → ℕ → ℕ) (c goals : ℕ)
     → gather (λ g. R (towards parent c g) g) 64 goals 0 ≡ coverEach parent count R c goals
 unfolding coverEach
 cover-start parent count R c goals = refl
 
-pub ruleset gather-laws = (gather-low, gather-less, gather-fits, gather-on, gather-end, cover-start)
+pub ruleset gather-laws = (gather-low, gather-less, gather-fits, gather-on, gather-none, cover-start)
 
 -- ---- the goals of children
 
@@ -212,9 +186,8 @@ pub ruleset kid-laws = (covered-is, kids-handed, kids-own, kids-one, kids-all)
 -- ---- the chain of parts that have all goals
 
 pub several-is : (goals w : ℕ) → w ≡ withoutLowest goals → not (eqb w 0) ≡ severalb goals
-unfolding severalb
+unfolding severalb someIn
 several-is goals w e = rw e
-
 
 module _ (parent : ℕ → ℕ) (left at all v : ℕ) (inv : climbAll parent left at all ≡ v) where
   module _ (some : 0 < left) where
@@ -327,7 +300,7 @@ module _ (parent : ℕ → ℕ) (count : ℕ) (R : ℕ → ℕ → ℕ) where
     unfolding rowsFrom
     rows-on here w h few e f =
         let here-is : here ≡ goalsOn parent count R (startOf goals top) c (inv .given) =
-          e ∙ ap (goalsHere parent count goals c) (inv .named-are) ∙ here-same goals top c (inv .given) in
+        e ∙ ap (goalsHere parent count goals c) (inv .named-are) ∙ here-same goals top c (inv .given) in
         let less : count - c ≡ suc (count - (c + 1)) = omega arith in
         record {
           done = inv .done ++ (here ∷ []);
@@ -337,8 +310,8 @@ module _ (parent : ℕ → ℕ) (count : ℕ) (R : ℕ → ℕ → ℕ) where
           rows-long = omega (arith, length-append (inv .done) (here ∷ []), inv .rows-long);
           named-long = omega (arith, length-append (inv .given) (w ∷ []), inv .named-long);
           all =
-            append-assoc (inv .done) (here ∷ []) (rowsFrom parent count R (startOf goals top) (count - (c + 1)) (c + 1) (inv .given ++ (w ∷ [])))
-            ∙ rw (f, here-is, add-one c) (rw (less, add-one c, rowsFrom) at (inv .all));
+              append-assoc (inv .done) (here ∷ []) (rowsFrom parent count R (startOf goals top) (count - (c + 1)) (c + 1) (inv .given ++ (w ∷ [])))
+              ∙ rw (f, here-is, add-one c) (rw (less, add-one c, rowsFrom) at (inv .all));
         }
 
     pub rows-end : count ≤ c → rows ≡ padded 64 (goalRows parent count R (startOf goals top))

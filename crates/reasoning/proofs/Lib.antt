@@ -52,6 +52,7 @@ pub mod Stepping
 pub mod TableArrays
 pub mod ValidFits
 pub mod Walks
+pub mod Writable
 pub mod Writes
 pub mod Written
 pub mod WrittenDocument

@@ -1,13 +1,13 @@
 -- Laws of the parts' numbers as the code works them out: the paths of a depth, the child paths, and the first part on each path.
 use Prim.Native.Nat.{ℕ, zero, suc, _+_, _*_, _-_, _^_, _≤_, _<_}
 use mathlib.Core.Path.{_≡_, refl, sym, ap, ap₂, _∙_, subst}
-use mathlib.Core.Bool.{Bool, true, false, _&&_}
+use mathlib.Core.Bool.{Bool, true, false}
 use mathlib.Core.List.{List, [], _∷_, _++_}
 use native.Mathlib.Omega.{arith}
 use native.Mathlib.Nat.{pow-suc}
 use native.Mathlib.Numerals.{add-one}
-use lib.Dec.{eqb, ltb}
-use lib.ListN.{length, getD, set, length-set}
+use lib.Dec.{eqb}
+use lib.ListN.{getD, set}
 use borrow.Author.Tests.{lt-ltb}
 use Rattle.files.specs.Sets.{bit, hasb, withPath, lowest, withoutLowest, size, members}
 use Rattle.files.proofs.SetBits.{hasb-true, hasb-false, with-new, bit-past}
@@ -15,7 +15,8 @@ use Rattle.files.proofs.SetMembers.{size-le, size-without-lowest, members-take,
 use Rattle.documents.specs.Paths.{depthOf}
 use Rattle.reasoning.specs.Arrays.{parentOf}
 use Rattle.reasoning.specs.Known.{DepthsIn}
-use Rattle.reasoning.specs.Handed.{pathsWhere, layer, layersFrom, pathOrder, childPaths, partsOn}
+use Rattle.reasoning.specs.Least.{passing}
+use Rattle.reasoning.specs.Handed.{layer, layersFrom, pathOrder, childPaths, partsOn}
 use Rattle.reasoning.specs.Emit.{withIf, layerIn, partsIn, placed}
 use Rattle.reasoning.proofs.Emitting.{set-laws}
 use Rattle.reasoning.proofs.EmittingParts.{layers-step, layers-none}
@@ -54,12 +55,12 @@ module _ (w : ℕ) (t : Bool) (x : ℕ) where
 pub ruleset with-laws = (with-passes, with-fails)
 
 pub layer-start : (depth : List ℕ) (d : ℕ) → 0 ≡ layerIn depth 0 d
-unfolding layerIn pathsWhere
+unfolding layerIn passing
 layer-start depth d = refl
 
 pub layer-on : (depth : List ℕ) (x d w b r : ℕ) → w ≡ layerIn depth x d → b ≡ getD depth x 0 → r ≡ withIf w (eqb b d) x
     → r ≡ layerIn depth (x + 1) d
-unfolding layerIn pathsWhere withIf
+unfolding layerIn passing withIf
 layer-on depth x d w b r e f g = rw (add-one x) (g ∙ rw (e, f) refl)
 
 pub layer-end : (depth : List ℕ) (x count d w : ℕ) → w ≡ layerIn depth x d → x ≤ count → count ≤ x → w ≡ layerIn depth count d
@@ -71,13 +72,13 @@ under-end x count w h k l = subst (λ (n : ℕ). w < 2 ^ n) (omega arith) h
 pub ruleset layer-of-laws = (layer-start, layer-end, under-end)
 
 pub child-start : (parent : ℕ → ℕ) (c : ℕ) → 0 ≡ childPaths parent 1 c
-unfolding childPaths pathsWhere
+unfolding childPaths passing
 child-start parent c = refl
 
 pub child-on : (parent : ℕ → ℕ) (x c w above r : ℕ) → 1 ≤ x → w ≡ childPaths parent x c → above ≡ parent x → r ≡ withIf w (eqb above c) x
     → r ≡ childPaths parent (x + 1) c
-unfolding childPaths pathsWhere withIf
-child-on parent x c w above r h e f g = rw (add-one x, pathsWhere, lt-ltb 0 x h) (g ∙ rw (e, f) refl)
+unfolding childPaths passing withIf
+child-on parent x c w above r h e f g = rw (add-one x, passing, lt-ltb 0 x h) (g ∙ rw (e, f) refl)
 
 pub child-end : (parent : ℕ → ℕ) (x count c w : ℕ) → w ≡ childPaths parent x c → x ≤ count → count ≤ x → w ≡ childPaths parent count c
 child-end parent x count c w e h k = e ∙ ap (λ (n : ℕ). childPaths parent n c) (omega arith)
@@ -85,8 +86,8 @@ child-end parent x count c w e h k = e ∙ ap (λ (n : ℕ). childPaths parent n
 pub ruleset child-paths-laws = (child-start, child-end, under-end)
 
 where-agree : (depth : List ℕ) (level : ℕ → ℕ) (d n : ℕ) → ((x : ℕ) → x < n → getD depth x 0 ≡ level x)
-    → pathsWhere (λ x. eqb (getD depth x 0) d) n ≡ pathsWhere (λ x. eqb (level x) d) n
-unfolding pathsWhere withIf
+    → passing (λ x. eqb (getD depth x 0) d) n ≡ passing (λ x. eqb (level x) d) n
+unfolding passing withIf
 where-agree depth level d zero h = refl
 where-agree depth level d (suc n) h =
     ap₂ (λ (a w : ℕ). withIf w (eqb a d) n) (h n (omega arith)) (where-agree depth level d n (λ x k. h x (omega arith)))
@@ -115,12 +116,6 @@ placed-append whole rows [] m at places = ap (λ (n : ℕ). placed whole rows m 
 placed-append whole rows (c ∷ l) m at places =
     placed-append whole rows l m (at + partsOn whole rows c) (set places c at)
     ∙ ap (λ (n : ℕ). placed whole rows m n (placed whole rows l (at + partsOn whole rows c) (set places c at))) (omega arith)
-
-pub placed-long : (whole : ℕ) (rows l : List ℕ) (at : ℕ) (places : List ℕ) → length (placed whole rows l at places) ≡ length places
-unfolding placed
-placed-long whole rows [] at places = refl
-placed-long whole rows (c ∷ l) at places =
-    placed-long whole rows l (at + partsOn whole rows c) (set places c at) ∙ length-set places c at
 
 module _ (whole : ℕ) (rows : List ℕ) (left : ℕ) (some : left ≡ 0 → ⊥) (fits : left < 2 ^ 64) (x next : ℕ) (low : x ≡ lowest left)
     (n : next ≡ withoutLowest left) where

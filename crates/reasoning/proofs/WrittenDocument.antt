@@ -1,5 +1,5 @@
 -- The numbers that the code emits are those of the document handed back: its goals, its part numbers and its parts, from arrays.
-use Prim.Native.Nat.{ℕ, zero, suc, _+_, _%_, _^_, _≤_, _<_}
+use Prim.Native.Nat.{ℕ, _+_, _%_, _≤_, _<_}
 use mathlib.Core.Path.{_≡_, refl, sym, ap, ap₂, _∙_, subst}
 use mathlib.Core.Bool.{Bool, true, false, _&&_}
 use mathlib.Core.List.{List, [], _∷_, _++_, map, append-assoc, append-nil, List·Memᴰ, List·Memᴰ·head, List·Memᴰ·tail}
@@ -11,7 +11,7 @@ use lib.Seq.{getD-set-same, getD-set-other}
 use borrow.Author.Tests.{eq-eqb, ne-eqb}
 use Rattle.files.specs.Number.{limit, bytesOfAll}
 use Rattle.files.specs.Rules.{padded}
-use Rattle.files.specs.Sets.{bit, hasb, common, sizeBelow, size, members}
+use Rattle.files.specs.Sets.{hasb, common, size, members}
 use Rattle.files.specs.Writing.{wrapped, put, Puts}
 use Rattle.files.specs.declared.write.Written.{Written}
 use Rattle.files.specs.declared.write.Written.the-variants.{Length, Refused}
@@ -27,7 +27,6 @@ use Rattle.reasoning.specs.Handed.{
   eachOf,
   onlyIf,
   oneKids,
-  chain,
   allKids,
   goalRows,
   pathOrder,
@@ -46,7 +45,6 @@ use Rattle.reasoning.specs.Emit.{
   storing,
   Room,
   Emitted,
-  Ready,
   Writable,
   partsIn,
   placed,
@@ -150,15 +148,25 @@ module _ (parent : ℕ → ℕ) (count : ℕ) (R : ℕ → ℕ → ℕ) (start :
   entries-count order c =
       let all = entryOn parent count R start whole row order c true (allKids parent count R start c) in
       let one : ℕ → Entry = λ g. entryOn parent count R start whole row order c false (oneKids parent count R c g) in
-      omega (arith, length-append (onlyIf (hasb whole c) all) (map one (members (getD row c 0))), length-map (members (getD row c 0)) one,
-      size-members (getD row c 0), only-bit all whole c (hasb whole c) refl, ap size (same c))
+      omega (
+        arith,
+        length-append (onlyIf (hasb whole c) all) (map one (members (getD row c 0))),
+        length-map (members (getD row c 0)) one,
+        size-members (getD row c 0),
+        only-bit all whole c (hasb whole c) refl,
+        ap size (same c),
+      )
 
   all-count : (order l : List ℕ) → length (eachOf (entriesOn parent count R start whole row order) l) ≡ partsIn whole rows l
   unfolding eachOf partsIn
   all-count order [] = refl
   all-count order (c ∷ l) =
-      omega (arith, length-append (entriesOn parent count R start whole row order c) (eachOf (entriesOn parent count R start whole row order) l),
-      entries-count order c, all-count order l)
+      omega (
+        arith,
+        length-append (entriesOn parent count R start whole row order c) (eachOf (entriesOn parent count R start whole row order) l),
+        entries-count order c,
+        all-count order l,
+      )
 
   module _ (order : List ℕ) (found : (k : ℕ) → k < count → getD places k 0 ≡ placeOf whole row order k) where
     ones-same : (k : ℕ) → k < count → (l : List ℕ) → eachOf (oneNumber whole rows places k) l ≡ map (numberOf whole row order k) l

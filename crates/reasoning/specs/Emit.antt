@@ -1,6 +1,6 @@
 -- The document's numbers as the code emits them, one after the other: from arrays of goals and of part numbers, into a lent
 -- buffer or only counted.
-use Prim.Native.Nat.{ℕ, zero, suc, _+_, _≤_, _<_}
+use Prim.Native.Nat.{ℕ, _+_, _≤_, _<_}
 use mathlib.Core.Path.{_≡_}
 use mathlib.Core.Bool.{Bool, true, false, _&&_}
 use mathlib.Core.List.{List, [], _∷_, _++_, List·Memᴰ}
@@ -11,10 +11,11 @@ use Rattle.files.specs.Number.{bytesOfAll}
 use Rattle.files.specs.Writing.{wrapped}
 use Rattle.files.specs.Sets.{bit, hasb, withPath, common, sizeBelow, members}
 use Rattle.reasoning.specs.Reachable.{subtree}
+use Rattle.reasoning.specs.Least.{passing}
 use Rattle.reasoning.specs.Arrays.{parentOf, Parents}
 use Rattle.reasoning.specs.Known.{DepthsIn}
 use Rattle.reasoning.specs.Writer.{wordFor, Tabled, startOf}
-use Rattle.reasoning.specs.Handed.{Start, pathsWhere, eachOf, onlyIf, allKids, oneKids, partsOn, childPaths, handedNumbers}
+use Rattle.reasoning.specs.Handed.{Start, eachOf, onlyIf, allKids, oneKids, partsOn, childPaths, handedNumbers}
 
 -- how many bytes numbers take, each modulo the limit
 unfoldable pub sizeOf : List ℕ → ℕ
@@ -53,7 +54,7 @@ withIf w test x = elim test [ true ↦ withPath w x | false ↦ w ]
 
 -- the paths of a depth, as the array has the depths
 unfoldable pub layerIn : (depth : List ℕ) (count d : ℕ) → ℕ
-layerIn depth count d = pathsWhere (λ x. eqb (getD depth x 0) d) count
+layerIn depth count d = passing (λ x. eqb (getD depth x 0) d) count
 
 -- how many parts are on the paths of a list
 unfoldable pub partsIn : (whole : ℕ) (rows paths : List ℕ) → ℕ

@@ -1,112 +1,29 @@
 // The document handed back, written: its numbers are emitted one after the other, first to count their bytes, then to store them.
-ghost use Prim.Native.Nat.{_+_, _^_, _≤_, _<_};
+ghost use Prim.Native.Nat.{_≤_, _<_};
 ghost use mathlib.Core.Path.{_≡_};
 ghost use mathlib.Core.List.{[], _∷_};
-ghost use lib.ListN.{length, getD};
+ghost use lib.ListN.{length};
 ghost use Rattle.files.specs.Number.{bytesOfAll};
-ghost use Rattle.files.specs.Sets.{bit, members};
+ghost use Rattle.files.specs.Sets.{members};
 ghost use Rattle.files.specs.Writing.{put, wrapped, Puts};
 ghost use Rattle.reasoning.specs.Arrays.{parentOf, Parents};
-ghost use Rattle.reasoning.specs.Known.{DepthsIn};
-ghost use Rattle.reasoning.specs.Handed.{eachOf, partsOn, childPaths, pathOrder, handedNumbers};
+ghost use Rattle.reasoning.specs.Handed.{eachOf, pathOrder, handedNumbers};
 ghost use Rattle.reasoning.specs.Writer.{wordFor, Tabled, startOf};
-ghost use Rattle.reasoning.specs.Emit.{Room, Emitted, Ready, Writable, withIf, layerIn, partsIn, placed, numberIn, oneNumber, wholeNumber, kidsUnder, kidsIn, partIn, onePartIn, wholePartIn, partsNumbers};
+ghost use Rattle.reasoning.specs.Emit.{Room, Emitted, Ready, Writable, oneNumber, wholeNumber, kidsUnder, kidsIn, partIn, onePartIn, wholePartIn, partsNumbers};
 use crate::goals::all_kids;
 use crate::goals::chain;
 use crate::goals::goal_rows;
 use crate::goals::one_kids;
-use crate::steps::parent_of;
+use crate::numbering::bit_of;
+use crate::numbering::child_paths;
+use crate::numbering::layer_of;
+use crate::numbering::number_of;
+use crate::numbering::place_all;
+use crate::numbering::place_at;
 use crate::steps::subtree;
-use crate::steps::wide;
 use files::number;
 use files::sets;
 use files::write::Written;
-
-// 1 if path x is in the set, else 0.
-fn bit_of(w: u64, x: usize) -> usize
-    ensures { λ r. ⌜ (r ≡ bit w x) × (r ≤ 1) ⌝ }
-{
-    if sets::has(w, x) {
-        return 1;
-    }
-    0
-}
-
-// The set with path x too if a test passes.
-fn with_if(w: u64, test: bool, x: usize) -> u64
-    ensures { λ r. ⌜ r ≡ withIf w test x ⌝ }
-{
-    if test {
-        return sets::with(w, x);
-    }
-    w
-}
-
-// The paths of depth d.
-fn layer_of(depth: &[u8; 64], count: usize, d: usize) -> u64
-    requires { ⌜ count ≤ 64 ⌝ }
-    ensures { λ r. ⌜ (r ≡ layerIn (now (depth .entry)) count d) × (r < 2 ^ count) ⌝ }
-{
-    let mut w = 0u64;
-    let mut x = 0usize;
-    while x < count {
-        w = with_if(w, wide(depth[x]) == d, x);
-        x += 1;
-    }
-    w
-}
-
-// The child paths of c.
-fn child_paths(parent: &[u8; 64], count: usize, c: usize) -> u64
-    requires { ⌜ Parents (now parent) count ⌝ }
-    ensures { λ r. ⌜ (r ≡ childPaths (parentOf (now (parent .entry))) count c) × (r < 2 ^ count) ⌝ }
-{
-    let mut w = 0u64;
-    let mut x = 1usize;
-    while x < count {
-        w = with_if(w, parent_of(parent, x) == c, x);
-        x += 1;
-    }
-    w
-}
-
-// How many parts are on path c.
-fn parts_on(whole: u64, rows: &[u64; 64], c: usize) -> usize
-    requires { ⌜ c < 64 ⌝ }
-    ensures { λ r. ⌜ (r ≡ partsOn whole (now (rows .entry)) c) × (r ≤ 65) ⌝ }
-{
-    bit_of(whole, c) + sets::size(rows[c])
-}
-
-// The number of the first part on each path of a layer stored, from `start` on; the number after them.
-fn place_layer(whole: u64, rows: &[u64; 64], layer: u64, start: usize, places: &mut [u32; 64]) -> usize
-    requires { ⌜ start ≤ 60000 ⌝ }
-    ensures { λ r. ⌜ (r ≡ start + partsIn whole (now (rows .entry)) (members layer)) × (r ≤ start + 4160) × (now (places .exit) ≡ placed whole (now (rows .entry)) (members layer) start (now (places .entry))) ⌝ }
-{
-    let mut left = layer;
-    let mut at = start;
-    while left != 0 {
-        let c = sets::lowest(left);
-        places[c] = at as u32;
-        at += parts_on(whole, rows, c);
-        left = sets::without_lowest(left);
-    }
-    at
-}
-
-// The number of the first part on each path stored; how many parts there are.
-fn place_all(parent: &[u8; 64], depth: &[u8; 64], count: usize, whole: u64, rows: &[u64; 64], places: &mut [u32; 64]) -> usize
-    requires { ⌜ (count ≤ 64) × DepthsIn (now parent) count (now depth) ⌝ }
-    ensures { λ r. ⌜ (r ≡ partsIn whole (now (rows .entry)) (pathOrder (parentOf (now (parent .entry))) count)) × (r ≤ 33280) × (now (places .exit) ≡ placed whole (now (rows .entry)) (pathOrder (parentOf (now (parent .entry))) count) 0 (now (places .entry))) ⌝ }
-{
-    let mut d = 1usize;
-    let mut at = 0usize;
-    while d < 9 {
-        at = place_layer(whole, rows, layer_of(depth, count, d), at, places);
-        d += 1;
-    }
-    at
-}
 
 // A number emitted at `at`; the place after it.
 fn emit(store: bool, n: usize, out: &mut [u8], at: usize) -> usize
@@ -119,29 +36,6 @@ fn emit(store: bool, n: usize, out: &mut [u8], at: usize) -> usize
         return at + number::size_of(v);
     }
     at + number::size_of(v)
-}
-
-fn wide_number(n: u32) -> usize
-    ensures { λ r. ⌜ (r ≡ n) × (r < 2 ^ 32) ⌝ }
-{
-    n as usize
-}
-
-// The number of the first part on path k.
-fn place_at(places: &[u32; 64], k: usize) -> usize
-    requires { ⌜ k < 64 ⌝ }
-    ensures { λ r. ⌜ (r ≡ getD (now (places .entry)) k 0) × (r < 2 ^ 32) ⌝ }
-{
-    wide_number(places[k])
-}
-
-// The number of the part on path k with the one goal g.
-fn number_of(whole: u64, rows: &[u64; 64], places: &[u32; 64], k: usize, g: usize) -> usize
-    requires { ⌜ k < 64 ⌝ }
-    ensures { λ r. ⌜ r ≡ numberIn whole (now (rows .entry)) (now (places .entry)) k g ⌝ }
-{
-    let inside = bit_of(whole, k) + sets::size_below(rows[k], g);
-    place_at(places, k) + inside
 }
 
 // The numbers of the parts on path k with one goal of a set.
@@ -161,14 +55,27 @@ fn emit_goals(
     let mut left = goals;
     let mut at = start;
     while left != 0 {
-        at = emit(store, number_of(whole, rows, places, k, sets::lowest(left)), out, at);
+        at = emit(
+            store,
+            number_of(whole, rows, places, k, sets::lowest(left)),
+            out,
+            at,
+        );
         left = sets::without_lowest(left);
     }
     at
 }
 
 // The number of the part on path k with all goals, if it is a child.
-fn emit_whole(whole: u64, places: &[u32; 64], handed: bool, k: usize, store: bool, out: &mut [u8], at: usize) -> usize
+fn emit_whole(
+    whole: u64,
+    places: &[u32; 64],
+    handed: bool,
+    k: usize,
+    store: bool,
+    out: &mut [u8],
+    at: usize,
+) -> usize
     requires { ⌜ (k < 64) × Room (wholeNumber whole (now places) handed k) at ⌝ }
     ensures { λ r. ⌜ Emitted store (wholeNumber whole (now (places .entry)) handed k) (now (out .entry)) at (now (out .exit)) r ⌝ }
 {
@@ -222,7 +129,19 @@ fn emit_kids(
     let mut left = child_paths(parent, count, c);
     let mut at = start;
     while left != 0 {
-        at = emit_kids_under(parent, count, whole, rows, places, handed, w, sets::lowest(left), store, out, at);
+        at = emit_kids_under(
+            parent,
+            count,
+            whole,
+            rows,
+            places,
+            handed,
+            w,
+            sets::lowest(left),
+            store,
+            out,
+            at,
+        );
         left = sets::without_lowest(left);
     }
     at
@@ -239,7 +158,14 @@ fn count_whole(whole: u64, handed: bool, k: usize) -> usize
 }
 
 // How many children on path k a part has.
-fn count_kids_under(parent: &[u8; 64], count: usize, whole: u64, handed: bool, w: u64, k: usize) -> usize
+fn count_kids_under(
+    parent: &[u8; 64],
+    count: usize,
+    whole: u64,
+    handed: bool,
+    w: u64,
+    k: usize,
+) -> usize
     requires { ⌜ Parents (now parent) count × (k < count) ⌝ }
     ensures { λ r. ⌜ (r ≡ length (kidsUnder (parentOf (now (parent .entry))) count whole [] [] handed w k)) × (r ≤ 65) ⌝ }
 {
@@ -281,7 +207,19 @@ fn emit_part(
     let many = count_kids(parent, count, whole, c, handed, w);
     let after = emit(store, c, out, at);
     let next = emit(store, many, out, after);
-    emit_kids(parent, count, whole, rows, places, c, handed, w, store, out, next)
+    emit_kids(
+        parent,
+        count,
+        whole,
+        rows,
+        places,
+        c,
+        handed,
+        w,
+        store,
+        out,
+        next,
+    )
 }
 
 // The parts on path c with one goal of a set.
@@ -306,7 +244,19 @@ fn emit_ones(
     let mut at = start;
     while left != 0 {
         let w = one_kids(parent, depth, table, count, c, sets::lowest(left));
-        at = emit_part(parent, count, whole, rows, places, c, false, w, store, out, at);
+        at = emit_part(
+            parent,
+            count,
+            whole,
+            rows,
+            places,
+            c,
+            false,
+            w,
+            store,
+            out,
+            at,
+        );
         left = sets::without_lowest(left);
     }
     at
@@ -333,7 +283,19 @@ fn emit_whole_part(
 {
     if sets::has(whole, c) {
         let w = all_kids(parent, depth, table, count, goals, top, c);
-        return emit_part(parent, count, whole, rows, places, c, true, w, store, out, at);
+        return emit_part(
+            parent,
+            count,
+            whole,
+            rows,
+            places,
+            c,
+            true,
+            w,
+            store,
+            out,
+            at,
+        );
     }
     at
 }
@@ -357,8 +319,35 @@ fn emit_parts(
     requires { ⌜ Ready (now parent) (now depth) count top × (c < 64) × Room (partsNumbers (parentOf (now parent)) count whole (now rows) (now places) (wordFor (now depth) (now table) count) (startOf goals top) c) at ⌝ }
     ensures { λ r. ⌜ Emitted store (partsNumbers (parentOf (now (parent .entry))) count whole (now (rows .entry)) (now (places .entry)) (wordFor (now (depth .entry)) (now (table .entry)) count) (startOf goals top) c) (now (out .entry)) at (now (out .exit)) r ⌝ }
 {
-    let next = emit_whole_part(parent, depth, table, count, goals, top, whole, rows, places, c, store, out, at);
-    emit_ones(parent, depth, table, count, whole, rows, places, c, rows[c], store, out, next)
+    let next = emit_whole_part(
+        parent,
+        depth,
+        table,
+        count,
+        goals,
+        top,
+        whole,
+        rows,
+        places,
+        c,
+        store,
+        out,
+        at,
+    );
+    emit_ones(
+        parent,
+        depth,
+        table,
+        count,
+        whole,
+        rows,
+        places,
+        c,
+        rows[c],
+        store,
+        out,
+        next,
+    )
 }
 
 // The parts on the paths of a layer.
@@ -383,7 +372,21 @@ fn emit_layer(
     let mut left = layer;
     let mut at = start;
     while left != 0 {
-        at = emit_parts(parent, depth, table, count, goals, top, whole, rows, places, sets::lowest(left), store, out, at);
+        at = emit_parts(
+            parent,
+            depth,
+            table,
+            count,
+            goals,
+            top,
+            whole,
+            rows,
+            places,
+            sets::lowest(left),
+            store,
+            out,
+            at,
+        );
         left = sets::without_lowest(left);
     }
     at
@@ -411,7 +414,21 @@ fn emit_layers(
     let mut at = start;
     while d < 9 {
         let layer = layer_of(depth, count, d);
-        at = emit_layer(parent, depth, table, count, goals, top, whole, rows, places, layer, store, out, at);
+        at = emit_layer(
+            parent,
+            depth,
+            table,
+            count,
+            goals,
+            top,
+            whole,
+            rows,
+            places,
+            layer,
+            store,
+            out,
+            at,
+        );
         d += 1;
     }
     at
@@ -437,7 +454,20 @@ fn emit_document(
     ensures { λ r. ⌜ Emitted store (parts ∷ eachOf (partsNumbers (parentOf (now (parent .entry))) count whole (now (rows .entry)) (now (places .entry)) (wordFor (now (depth .entry)) (now (table .entry)) count) (startOf goals top)) (pathOrder (parentOf (now (parent .entry))) count)) (now (out .entry)) at (now (out .exit)) r ⌝ }
 {
     let next = emit(store, parts, out, at);
-    emit_layers(parent, depth, table, count, goals, top, whole, rows, places, store, out, next)
+    emit_layers(
+        parent,
+        depth,
+        table,
+        count,
+        goals,
+        top,
+        whole,
+        rows,
+        places,
+        store,
+        out,
+        next,
+    )
 }
 
 // The document's bytes put into `out`: all of them or, where they are longer than it, none (refusal 20).
@@ -457,11 +487,39 @@ fn put_document(
     requires { ⌜ Ready (now parent) (now depth) count top × Room (parts ∷ eachOf (partsNumbers (parentOf (now parent)) count whole (now rows) (now places) (wordFor (now depth) (now table) count) (startOf goals top)) (pathOrder (parentOf (now parent)) count)) 0 ⌝ }
     ensures { λ r. ⌜ Puts (put (bytesOfAll (wrapped (parts ∷ eachOf (partsNumbers (parentOf (now (parent .entry))) count whole (now (rows .entry)) (now (places .entry)) (wordFor (now (depth .entry)) (now (table .entry)) count) (startOf goals top)) (pathOrder (parentOf (now (parent .entry))) count)))) (now (out .entry))) r (now (out .exit)) ⌝ }
 {
-    let size = emit_document(parent, depth, table, count, goals, top, whole, rows, places, parts, false, out, 0);
+    let size = emit_document(
+        parent,
+        depth,
+        table,
+        count,
+        goals,
+        top,
+        whole,
+        rows,
+        places,
+        parts,
+        false,
+        out,
+        0,
+    );
     if out.len() < size {
         return Written::Refused(20, 0);
     }
-    emit_document(parent, depth, table, count, goals, top, whole, rows, places, parts, true, out, 0);
+    emit_document(
+        parent,
+        depth,
+        table,
+        count,
+        goals,
+        top,
+        whole,
+        rows,
+        places,
+        parts,
+        true,
+        out,
+        0,
+    );
     Written::Length(size)
 }
 
@@ -482,5 +540,17 @@ pub(crate) fn write_document(
     let rows = goal_rows(parent, depth, table, count, goals, top, whole);
     let mut places = [0u32; 64];
     let parts = place_all(parent, depth, count, whole, &rows, &mut places);
-    put_document(parent, depth, table, count, goals, top, whole, &rows, &places, parts, out)
+    put_document(
+        parent,
+        depth,
+        table,
+        count,
+        goals,
+        top,
+        whole,
+        &rows,
+        &places,
+        parts,
+        out,
+    )
 }

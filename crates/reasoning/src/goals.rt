@@ -65,7 +65,14 @@ fn reach_all(depth: &[u8; 64], table: &[u64; 512], count: usize, c: usize, goals
 }
 
 // What the child of a part on c with the one goal g covers.
-fn covered(parent: &[u8; 64], depth: &[u8; 64], table: &[u64; 512], count: usize, c: usize, g: usize) -> u64
+fn covered(
+    parent: &[u8; 64],
+    depth: &[u8; 64],
+    table: &[u64; 512],
+    count: usize,
+    c: usize,
+    g: usize,
+) -> u64
     requires { ⌜ Parents (now parent) count × Tabled (now depth) count × (g < 64) ⌝ }
     ensures { λ r. ⌜ r ≡ wordFor (now (depth .entry)) (now (table .entry)) count (towards (parentOf (now (parent .entry))) c g) g ⌝ }
 {
@@ -74,21 +81,39 @@ fn covered(parent: &[u8; 64], depth: &[u8; 64], table: &[u64; 512], count: usize
 }
 
 // What the goals' own children cover.
-fn cover_each(parent: &[u8; 64], depth: &[u8; 64], table: &[u64; 512], count: usize, c: usize, goals: u64) -> u64
+fn cover_each(
+    parent: &[u8; 64],
+    depth: &[u8; 64],
+    table: &[u64; 512],
+    count: usize,
+    c: usize,
+    goals: u64,
+) -> u64
     requires { ⌜ Parents (now parent) count × Tabled (now depth) count ⌝ }
     ensures { λ r. ⌜ r ≡ coverEach (parentOf (now (parent .entry))) count (wordFor (now (depth .entry)) (now (table .entry)) count) c goals ⌝ }
 {
     let mut left = goals;
     let mut all = 0u64;
     while left != 0 {
-        all = sets::union(all, covered(parent, depth, table, count, c, sets::lowest(left)));
+        all = sets::union(
+            all,
+            covered(parent, depth, table, count, c, sets::lowest(left)),
+        );
         left = sets::without_lowest(left);
     }
     all
 }
 
 // The goals of the children that cover `uncovered`, highest first, beside those chosen already.
-fn fill(parent: &[u8; 64], depth: &[u8; 64], table: &[u64; 512], count: usize, c: usize, uncovered: u64, own: u64) -> u64
+fn fill(
+    parent: &[u8; 64],
+    depth: &[u8; 64],
+    table: &[u64; 512],
+    count: usize,
+    c: usize,
+    uncovered: u64,
+    own: u64,
+) -> u64
     requires { ⌜ Parents (now parent) count × Tabled (now depth) count ⌝ }
     ensures { λ r. ⌜ r ≡ fillWord (parentOf (now (parent .entry))) count (wordFor (now (depth .entry)) (now (table .entry)) count) c 64 uncovered own ⌝ }
 {
@@ -125,15 +150,38 @@ fn kid_word(
     if handed {
         let k = towards(parent, c, top);
         let covered = reach_all(depth, table, count, k, goals);
-        return fill(parent, depth, table, count, c, sets::difference(reached, covered), 0);
+        return fill(
+            parent,
+            depth,
+            table,
+            count,
+            c,
+            sets::difference(reached, covered),
+            0,
+        );
     }
     let own = sets::without(goals, c);
     let covered = cover_each(parent, depth, table, count, c, own);
-    fill(parent, depth, table, count, c, sets::difference(reached, covered), own)
+    fill(
+        parent,
+        depth,
+        table,
+        count,
+        c,
+        sets::difference(reached, covered),
+        own,
+    )
 }
 
 // The goals of the children of the part on c with the one goal g.
-pub(crate) fn one_kids(parent: &[u8; 64], depth: &[u8; 64], table: &[u64; 512], count: usize, c: usize, g: usize) -> u64
+pub(crate) fn one_kids(
+    parent: &[u8; 64],
+    depth: &[u8; 64],
+    table: &[u64; 512],
+    count: usize,
+    c: usize,
+    g: usize,
+) -> u64
     requires { ⌜ Parents (now parent) count × Tabled (now depth) count × (g < 64) ⌝ }
     ensures { λ r. ⌜ r ≡ oneKids (parentOf (now (parent .entry))) count (wordFor (now (depth .entry)) (now (table .entry)) count) c g ⌝ }
 {
@@ -209,7 +257,10 @@ fn gather_kids(
     let mut left = here;
     let mut all = first;
     while left != 0 {
-        all = sets::union(all, one_kids(parent, depth, table, count, c, sets::lowest(left)));
+        all = sets::union(
+            all,
+            one_kids(parent, depth, table, count, c, sets::lowest(left)),
+        );
         left = sets::without_lowest(left);
     }
     all

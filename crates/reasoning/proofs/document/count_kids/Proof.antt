@@ -1,11 +1,6 @@
+-- `reasoning::document::count_kids` meets its contract: what is counted and what remains is the whole.
 use Rattle.reasoning.proofs.document.count_kids.Statement.{statement}
 use Rattle.reasoning.proofs.document.count_kids.Tie as tie
-use Rattle.reasoning.proofs.document.count_kids.Reads as reads
-use Rattle.reasoning.proofs.document.count_kids.Lts as lts
-use Rattle.files.proofs.sets.lowest.Reads as lowest-reads
-use Rattle.files.proofs.sets.without_lowest.Reads as without-lowest-reads
-use Rattle.reasoning.proofs.document.child_paths.Reads as child-paths-reads
-use Rattle.reasoning.proofs.document.count_kids_under.Reads as count-kids-under-reads
 use borrow.Author.Needs.{needs}
 use Prim.Native.Nat.{_+_, _*_, _^_, _≤_, _<_}
 use mathlib.Core.Path.{_≡_}

@@ -1,12 +1,7 @@
+-- `reasoning::document::count_kids_under` meets its contract: the part with all goals and the one-goal parts.
 use borrow.Author.Needs.{needs}
 use Rattle.reasoning.proofs.document.count_kids_under.Statement.{statement}
 use Rattle.reasoning.proofs.document.count_kids_under.Tie as tie
-use Rattle.reasoning.proofs.document.count_kids_under.Reads as reads
-use Rattle.reasoning.proofs.document.count_kids_under.Lts as lts
-use Rattle.files.proofs.sets.common.Reads as common-reads
-use Rattle.files.proofs.sets.size.Reads as size-reads
-use Rattle.reasoning.proofs.document.count_whole.Reads as count-whole-reads
-use Rattle.reasoning.proofs.steps.subtree.Reads as subtree-reads
 use Rattle.reasoning.proofs.EmittingParts.{under-counted}
 
 subtree-requires : tie.Need-subtree-requires

@@ -1,10 +1,7 @@
+-- `reasoning::document::emit` meets its contract: its bytes are counted, or stored too.
 use borrow.Author.Needs.{needs}
 use Rattle.reasoning.proofs.document.emit.Statement.{statement}
 use Rattle.reasoning.proofs.document.emit.Tie as tie
-use Rattle.reasoning.proofs.document.emit.Reads as reads
-use Rattle.reasoning.proofs.document.emit.Lts as lts
-use Rattle.files.proofs.number.size_of.Reads as size-of-reads
-use Rattle.files.proofs.number.store_number.Reads as store-number-reads
 use Rattle.reasoning.proofs.Emitting.{number-laws}
 
 cast-v : tie.Need-cast-v

@@ -1,10 +1,7 @@
+-- `reasoning::document::emit_document` meets its contract: the part count, then the parts.
 use borrow.Author.Needs.{needs}
 use Rattle.reasoning.proofs.document.emit_document.Statement.{statement}
 use Rattle.reasoning.proofs.document.emit_document.Tie as tie
-use Rattle.reasoning.proofs.document.emit_document.Reads as reads
-use Rattle.reasoning.proofs.document.emit_document.Lts as lts
-use Rattle.reasoning.proofs.document.emit.Reads as emit-reads
-use Rattle.reasoning.proofs.document.emit_layers.Reads as emit-layers-reads
 use Rattle.reasoning.proofs.WrittenDocument.{head-laws}
 
 emit-requires : tie.Need-emit-requires

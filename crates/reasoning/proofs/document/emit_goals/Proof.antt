@@ -1,11 +1,6 @@
+-- `reasoning::document::emit_goals` meets its contract: what is emitted and what remains is the whole.
 use Rattle.reasoning.proofs.document.emit_goals.Statement.{statement}
 use Rattle.reasoning.proofs.document.emit_goals.Tie as tie
-use Rattle.reasoning.proofs.document.emit_goals.Reads as reads
-use Rattle.reasoning.proofs.document.emit_goals.Lts as lts
-use Rattle.files.proofs.sets.lowest.Reads as lowest-reads
-use Rattle.files.proofs.sets.without_lowest.Reads as without-lowest-reads
-use Rattle.reasoning.proofs.document.emit.Reads as emit-reads
-use Rattle.reasoning.proofs.document.number_of.Reads as number-of-reads
 use borrow.Author.Needs.{needs}
 use Prim.Native.Nat.{_^_, _<_}
 use mathlib.Core.Path.{_≡_}

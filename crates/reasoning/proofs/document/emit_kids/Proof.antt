@@ -1,11 +1,6 @@
+-- `reasoning::document::emit_kids` meets its contract: what is emitted and what remains is the whole.
 use Rattle.reasoning.proofs.document.emit_kids.Statement.{statement}
 use Rattle.reasoning.proofs.document.emit_kids.Tie as tie
-use Rattle.reasoning.proofs.document.emit_kids.Reads as reads
-use Rattle.reasoning.proofs.document.emit_kids.Lts as lts
-use Rattle.files.proofs.sets.lowest.Reads as lowest-reads
-use Rattle.files.proofs.sets.without_lowest.Reads as without-lowest-reads
-use Rattle.reasoning.proofs.document.child_paths.Reads as child-paths-reads
-use Rattle.reasoning.proofs.document.emit_kids_under.Reads as emit-kids-under-reads
 use borrow.Author.Needs.{needs}
 use Prim.Native.Nat.{_^_, _<_}
 use mathlib.Core.Path.{_≡_}

@@ -1,11 +1,6 @@
+-- `reasoning::document::emit_kids_under` meets its contract: two pieces, one after the other.
 use Rattle.reasoning.proofs.document.emit_kids_under.Statement.{statement}
 use Rattle.reasoning.proofs.document.emit_kids_under.Tie as tie
-use Rattle.reasoning.proofs.document.emit_kids_under.Reads as reads
-use Rattle.reasoning.proofs.document.emit_kids_under.Lts as lts
-use Rattle.files.proofs.sets.common.Reads as common-reads
-use Rattle.reasoning.proofs.document.emit_goals.Reads as emit-goals-reads
-use Rattle.reasoning.proofs.document.emit_whole.Reads as emit-whole-reads
-use Rattle.reasoning.proofs.steps.subtree.Reads as subtree-reads
 use borrow.Author.Needs.{needs}
 use Rattle.reasoning.proofs.Emitting.{under-laws}
 

@@ -1,10 +1,6 @@
+-- `reasoning::document::emit_layer` meets its contract: what is emitted and what remains is the whole.
 use Rattle.reasoning.proofs.document.emit_layer.Statement.{statement}
 use Rattle.reasoning.proofs.document.emit_layer.Tie as tie
-use Rattle.reasoning.proofs.document.emit_layer.Reads as reads
-use Rattle.reasoning.proofs.document.emit_layer.Lts as lts
-use Rattle.files.proofs.sets.lowest.Reads as lowest-reads
-use Rattle.files.proofs.sets.without_lowest.Reads as without-lowest-reads
-use Rattle.reasoning.proofs.document.emit_parts.Reads as emit-parts-reads
 use borrow.Author.Needs.{needs}
 use Prim.Native.Nat.{_^_, _<_}
 use mathlib.Core.Path.{_≡_}

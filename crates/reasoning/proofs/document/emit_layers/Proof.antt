@@ -1,14 +1,10 @@
+-- `reasoning::document::emit_layers` meets its contract: layer by layer, what remains is the whole.
 use Rattle.reasoning.proofs.document.emit_layers.Statement.{statement}
 use Rattle.reasoning.proofs.document.emit_layers.Tie as tie
-use Rattle.reasoning.proofs.document.emit_layers.Reads as reads
-use Rattle.reasoning.proofs.document.emit_layers.Lts as lts
-use Rattle.reasoning.proofs.document.emit_layer.Reads as emit-layer-reads
-use Rattle.reasoning.proofs.document.layer_of.Reads as layer-of-reads
 use borrow.Author.Needs.{needs}
 use Prim.Native.Nat.{_-_, _≤_}
 use mathlib.Core.Path.{_≡_}
 use lib.ListN.{length}
-use Rattle.files.specs.Sets.{members}
 use Rattle.reasoning.specs.Arrays.{parentOf}
 use Rattle.reasoning.specs.Handed.{eachOf, layersFrom, pathOrder}
 use Rattle.reasoning.specs.Writer.{wordFor, startOf}

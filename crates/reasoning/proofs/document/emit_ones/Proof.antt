@@ -1,11 +1,6 @@
+-- `reasoning::document::emit_ones` meets its contract: what is emitted and what remains is the whole.
 use Rattle.reasoning.proofs.document.emit_ones.Statement.{statement}
 use Rattle.reasoning.proofs.document.emit_ones.Tie as tie
-use Rattle.reasoning.proofs.document.emit_ones.Reads as reads
-use Rattle.reasoning.proofs.document.emit_ones.Lts as lts
-use Rattle.files.proofs.sets.lowest.Reads as lowest-reads
-use Rattle.files.proofs.sets.without_lowest.Reads as without-lowest-reads
-use Rattle.reasoning.proofs.document.emit_part.Reads as emit-part-reads
-use Rattle.reasoning.proofs.goals.one_kids.Reads as one-kids-reads
 use borrow.Author.Needs.{needs}
 use Prim.Native.Nat.{_^_, _<_}
 use mathlib.Core.Path.{_≡_}

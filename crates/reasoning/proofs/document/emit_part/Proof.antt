@@ -1,11 +1,7 @@
+-- `reasoning::document::emit_part` meets its contract: three pieces, one after the other.
 use borrow.Author.Needs.{needs}
 use Rattle.reasoning.proofs.document.emit_part.Statement.{statement}
 use Rattle.reasoning.proofs.document.emit_part.Tie as tie
-use Rattle.reasoning.proofs.document.emit_part.Reads as reads
-use Rattle.reasoning.proofs.document.emit_part.Lts as lts
-use Rattle.reasoning.proofs.document.count_kids.Reads as count-kids-reads
-use Rattle.reasoning.proofs.document.emit.Reads as emit-reads
-use Rattle.reasoning.proofs.document.emit_kids.Reads as emit-kids-reads
 use Rattle.reasoning.proofs.EmittingParts.{part-laws}
 
 count-kids-requires : tie.Need-count-kids-requires

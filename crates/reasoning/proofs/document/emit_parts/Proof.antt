@@ -1,10 +1,7 @@
+-- `reasoning::document::emit_parts` meets its contract: two pieces, one after the other.
 use borrow.Author.Needs.{needs}
 use Rattle.reasoning.proofs.document.emit_parts.Statement.{statement}
 use Rattle.reasoning.proofs.document.emit_parts.Tie as tie
-use Rattle.reasoning.proofs.document.emit_parts.Reads as reads
-use Rattle.reasoning.proofs.document.emit_parts.Lts as lts
-use Rattle.reasoning.proofs.document.emit_ones.Reads as emit-ones-reads
-use Rattle.reasoning.proofs.document.emit_whole_part.Reads as emit-whole-part-reads
 use Rattle.reasoning.proofs.EmittingParts.{path-second, path-laws}
 
 emit-whole-part-requires : tie.Need-emit-whole-part-requires
@@ -18,10 +15,11 @@ element-copy-out-emit-ones c = search needs
 
 emit-ones-requires : tie.Need-emit-ones-requires
 emit-ones-requires c κs =
-    let known = c .before .before .before .before .before .before .before .pre in
-    (known .0 .parents,
-    known .0 .tabled,
-    path-second _ _ _ _ _ _ _ _ _ _ _ _ _ (c .before .before .before .before .emit-whole-part .ensures) (known .2))
+    let known = c .before .before .before .before .before .before .before .pre in (
+      known .0 .parents,
+      known .0 .tabled,
+      path-second _ _ _ _ _ _ _ _ _ _ _ _ _ (c .before .before .before .before .emit-whole-part .ensures) (known .2),
+    )
 
 same-length : tie.Need-same-length
 same-length c = search needs

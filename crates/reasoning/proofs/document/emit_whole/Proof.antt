@@ -1,11 +1,7 @@
+-- `reasoning::document::emit_whole` meets its contract: one number or none.
 use borrow.Author.Needs.{needs}
 use Rattle.reasoning.proofs.document.emit_whole.Statement.{statement}
 use Rattle.reasoning.proofs.document.emit_whole.Tie as tie
-use Rattle.reasoning.proofs.document.emit_whole.Reads as reads
-use Rattle.reasoning.proofs.document.emit_whole.Lts as lts
-use Rattle.files.proofs.sets.has.Reads as has-reads
-use Rattle.reasoning.proofs.document.emit.Reads as emit-reads
-use Rattle.reasoning.proofs.document.place_at.Reads as place-at-reads
 use Rattle.reasoning.proofs.Emitting.{whole-number-laws}
 
 has-requires : tie.Need-has-requires

@@ -1,11 +1,7 @@
+-- `reasoning::document::emit_whole_part` meets its contract: one part or none.
 use borrow.Author.Needs.{needs}
 use Rattle.reasoning.proofs.document.emit_whole_part.Statement.{statement}
 use Rattle.reasoning.proofs.document.emit_whole_part.Tie as tie
-use Rattle.reasoning.proofs.document.emit_whole_part.Reads as reads
-use Rattle.reasoning.proofs.document.emit_whole_part.Lts as lts
-use Rattle.files.proofs.sets.has.Reads as has-reads
-use Rattle.reasoning.proofs.document.emit_part.Reads as emit-part-reads
-use Rattle.reasoning.proofs.goals.all_kids.Reads as all-kids-reads
 use Rattle.reasoning.proofs.EmittingParts.{all-laws}
 
 has-requires : tie.Need-has-requires

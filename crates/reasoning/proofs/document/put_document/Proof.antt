@@ -1,9 +1,7 @@
+-- `reasoning::document::put_document` meets its contract: the size is known before the first store.
 use borrow.Author.Needs.{needs}
 use Rattle.reasoning.proofs.document.put_document.Statement.{statement}
 use Rattle.reasoning.proofs.document.put_document.Tie as tie
-use Rattle.reasoning.proofs.document.put_document.Reads as reads
-use Rattle.reasoning.proofs.document.put_document.Lts as lts
-use Rattle.reasoning.proofs.document.emit_document.Reads as emit-document-reads
 use Rattle.reasoning.proofs.WrittenDocument.{put-laws}
 
 emit-document-requires : tie.Need-emit-document-requires

@@ -1,12 +1,7 @@
+-- `reasoning::document::write_document` meets its contract: the numbers emitted are those of the document.
 use borrow.Author.Needs.{needs}
 use Rattle.reasoning.proofs.document.write_document.Statement.{statement}
 use Rattle.reasoning.proofs.document.write_document.Tie as tie
-use Rattle.reasoning.proofs.document.write_document.Reads as reads
-use Rattle.reasoning.proofs.document.write_document.Lts as lts
-use Rattle.reasoning.proofs.document.place_all.Reads as place-all-reads
-use Rattle.reasoning.proofs.document.put_document.Reads as put-document-reads
-use Rattle.reasoning.proofs.goals.chain.Reads as chain-reads
-use Rattle.reasoning.proofs.goals.goal_rows.Reads as goal-rows-reads
 use Rattle.reasoning.proofs.WrittenDocument.{document-laws}
 
 chain-requires : tie.Need-chain-requires

@@ -1,9 +1,7 @@
+-- `reasoning::goals::all_kids` meets its contract: all goals.
 use borrow.Author.Needs.{needs}
 use Rattle.reasoning.proofs.goals.all_kids.Statement.{statement}
 use Rattle.reasoning.proofs.goals.all_kids.Tie as tie
-use Rattle.reasoning.proofs.goals.all_kids.Reads as reads
-use Rattle.reasoning.proofs.goals.all_kids.Lts as lts
-use Rattle.reasoning.proofs.goals.kid_word.Reads as kid-word-reads
 use Rattle.reasoning.proofs.GoalWords.{kid-laws}
 
 kid-word-requires : tie.Need-kid-word-requires

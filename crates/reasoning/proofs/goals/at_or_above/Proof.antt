@@ -1,9 +1,6 @@
+-- `reasoning::goals::at_or_above` meets its contract: the paths still to climb.
 use Rattle.reasoning.proofs.goals.at_or_above.Statement.{statement}
 use Rattle.reasoning.proofs.goals.at_or_above.Tie as tie
-use Rattle.reasoning.proofs.goals.at_or_above.Reads as reads
-use Rattle.reasoning.proofs.goals.at_or_above.Lts as lts
-use Rattle.files.proofs.sets.with.Reads as with-reads
-use Rattle.reasoning.proofs.steps.parent_of.Reads as parent-of-reads
 use borrow.Author.Needs.{needs}
 use Prim.Native.Nat.{_≤_}
 use mathlib.Core.Path.{_≡_}

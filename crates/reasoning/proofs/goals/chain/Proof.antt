@@ -1,10 +1,7 @@
+-- `reasoning::goals::chain` meets its contract: several goals or one.
 use borrow.Author.Needs.{needs}
 use Rattle.reasoning.proofs.goals.chain.Statement.{statement}
 use Rattle.reasoning.proofs.goals.chain.Tie as tie
-use Rattle.reasoning.proofs.goals.chain.Reads as reads
-use Rattle.reasoning.proofs.goals.chain.Lts as lts
-use Rattle.reasoning.proofs.goals.at_or_above.Reads as at-or-above-reads
-use Rattle.reasoning.proofs.goals.several.Reads as several-reads
 use Rattle.reasoning.proofs.GoalWords.{chain-laws}
 
 several-requires : tie.Need-several-requires

@@ -1,11 +1,6 @@
+-- `reasoning::goals::fill` meets its contract: the highest path left gets a child.
 use Rattle.reasoning.proofs.goals.fill.Statement.{statement}
 use Rattle.reasoning.proofs.goals.fill.Tie as tie
-use Rattle.reasoning.proofs.goals.fill.Reads as reads
-use Rattle.reasoning.proofs.goals.fill.Lts as lts
-use Rattle.files.proofs.sets.difference.Reads as difference-reads
-use Rattle.files.proofs.sets.with.Reads as with-reads
-use Rattle.reasoning.proofs.goals.covered.Reads as covered-reads
-use Rattle.reasoning.proofs.goals.highest.Reads as highest-reads
 use borrow.Author.Needs.{needs}
 use Prim.Native.Nat.{_^_, _<_, _≤_}
 use mathlib.Core.Path.{_≡_}

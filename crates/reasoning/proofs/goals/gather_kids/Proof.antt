@@ -1,11 +1,6 @@
+-- `reasoning::goals::gather_kids` meets its contract: what is gathered and what remains is the whole.
 use Rattle.reasoning.proofs.goals.gather_kids.Statement.{statement}
 use Rattle.reasoning.proofs.goals.gather_kids.Tie as tie
-use Rattle.reasoning.proofs.goals.gather_kids.Reads as reads
-use Rattle.reasoning.proofs.goals.gather_kids.Lts as lts
-use Rattle.files.proofs.sets.lowest.Reads as lowest-reads
-use Rattle.files.proofs.sets.union.Reads as union-reads
-use Rattle.files.proofs.sets.without_lowest.Reads as without-lowest-reads
-use Rattle.reasoning.proofs.goals.one_kids.Reads as one-kids-reads
 use borrow.Author.Needs.{needs}
 use Prim.Native.Nat.{_^_, _<_}
 use mathlib.Core.Path.{_≡_}

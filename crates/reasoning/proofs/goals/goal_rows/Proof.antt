@@ -1,9 +1,6 @@
+-- `reasoning::goals::goal_rows` meets its contract: the goals on the paths passed, and what remains.
 use Rattle.reasoning.proofs.goals.goal_rows.Statement.{statement}
 use Rattle.reasoning.proofs.goals.goal_rows.Tie as tie
-use Rattle.reasoning.proofs.goals.goal_rows.Reads as reads
-use Rattle.reasoning.proofs.goals.goal_rows.Lts as lts
-use Rattle.reasoning.proofs.goals.goals_on.Reads as goals-on-reads
-use Rattle.reasoning.proofs.goals.kids_at.Reads as kids-at-reads
 use borrow.Author.Needs.{needs}
 use Prim.Native.Nat.{_-_, _≤_}
 use mathlib.Core.Path.{_≡_}

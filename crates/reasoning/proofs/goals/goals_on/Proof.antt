@@ -1,12 +1,7 @@
+-- `reasoning::goals::goals_on` meets its contract: the root, or a path under its parent.
 use borrow.Author.Needs.{needs}
 use Rattle.reasoning.proofs.goals.goals_on.Statement.{statement}
 use Rattle.reasoning.proofs.goals.goals_on.Tie as tie
-use Rattle.reasoning.proofs.goals.goals_on.Reads as reads
-use Rattle.reasoning.proofs.goals.goals_on.Lts as lts
-use Rattle.files.proofs.sets.common.Reads as common-reads
-use Rattle.reasoning.proofs.goals.root_goals.Reads as root-goals-reads
-use Rattle.reasoning.proofs.steps.parent_of.Reads as parent-of-reads
-use Rattle.reasoning.proofs.steps.subtree.Reads as subtree-reads
 use Rattle.reasoning.proofs.GoalWords.{goals-laws}
 
 root-goals-requires : tie.Need-root-goals-requires

@@ -1,8 +1,6 @@
+-- `reasoning::goals::highest` meets its contract: the zeros at the word's high end.
 use Rattle.reasoning.proofs.goals.highest.Statement.{statement}
 use Rattle.reasoning.proofs.goals.highest.Tie as tie
-use Rattle.reasoning.proofs.goals.highest.Reads as reads
-use Rattle.reasoning.proofs.goals.highest.Lts as lts
-use borrow.Author.Needs.{needs}
 use native.Mathlib.Omega.{arith}
 use Rattle.reasoning.proofs.GoalWords.{leading-small, highest-reads}
 

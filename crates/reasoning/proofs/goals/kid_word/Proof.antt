@@ -1,14 +1,7 @@
+-- `reasoning::goals::kid_word` meets its contract: what no child covers yet is filled.
 use borrow.Author.Needs.{needs}
 use Rattle.reasoning.proofs.goals.kid_word.Statement.{statement}
 use Rattle.reasoning.proofs.goals.kid_word.Tie as tie
-use Rattle.reasoning.proofs.goals.kid_word.Reads as reads
-use Rattle.reasoning.proofs.goals.kid_word.Lts as lts
-use Rattle.files.proofs.sets.difference.Reads as difference-reads
-use Rattle.files.proofs.sets.without.Reads as without-reads
-use Rattle.reasoning.proofs.goals.cover_each.Reads as cover-each-reads
-use Rattle.reasoning.proofs.goals.fill.Reads as fill-reads
-use Rattle.reasoning.proofs.goals.reach_all.Reads as reach-all-reads
-use Rattle.reasoning.proofs.goals.towards.Reads as towards-reads
 use Rattle.reasoning.proofs.GoalWords.{kid-laws}
 
 reach-all-requires : tie.Need-reach-all-requires

@@ -1,11 +1,7 @@
+-- `reasoning::goals::kids_at` meets its contract: with or without the part that has all goals.
 use borrow.Author.Needs.{needs}
 use Rattle.reasoning.proofs.goals.kids_at.Statement.{statement}
 use Rattle.reasoning.proofs.goals.kids_at.Tie as tie
-use Rattle.reasoning.proofs.goals.kids_at.Reads as reads
-use Rattle.reasoning.proofs.goals.kids_at.Lts as lts
-use Rattle.files.proofs.sets.has.Reads as has-reads
-use Rattle.reasoning.proofs.goals.all_kids.Reads as all-kids-reads
-use Rattle.reasoning.proofs.goals.gather_kids.Reads as gather-kids-reads
 use Rattle.reasoning.proofs.GoalWords.{whole-laws}
 
 has-requires : tie.Need-has-requires

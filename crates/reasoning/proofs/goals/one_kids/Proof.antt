@@ -1,10 +1,7 @@
+-- `reasoning::goals::one_kids` meets its contract: one goal.
 use borrow.Author.Needs.{needs}
 use Rattle.reasoning.proofs.goals.one_kids.Statement.{statement}
 use Rattle.reasoning.proofs.goals.one_kids.Tie as tie
-use Rattle.reasoning.proofs.goals.one_kids.Reads as reads
-use Rattle.reasoning.proofs.goals.one_kids.Lts as lts
-use Rattle.files.proofs.sets.with.Reads as with-reads
-use Rattle.reasoning.proofs.goals.kid_word.Reads as kid-word-reads
 use Rattle.reasoning.proofs.GoalWords.{kid-laws}
 
 with-requires : tie.Need-with-requires

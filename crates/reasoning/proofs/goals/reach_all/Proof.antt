@@ -1,11 +1,6 @@
+-- `reasoning::goals::reach_all` meets its contract: what is gathered and what remains is the whole.
 use Rattle.reasoning.proofs.goals.reach_all.Statement.{statement}
 use Rattle.reasoning.proofs.goals.reach_all.Tie as tie
-use Rattle.reasoning.proofs.goals.reach_all.Reads as reads
-use Rattle.reasoning.proofs.goals.reach_all.Lts as lts
-use Rattle.files.proofs.sets.lowest.Reads as lowest-reads
-use Rattle.files.proofs.sets.union.Reads as union-reads
-use Rattle.files.proofs.sets.without_lowest.Reads as without-lowest-reads
-use Rattle.reasoning.proofs.goals.word_for.Reads as word-for-reads
 use borrow.Author.Needs.{needs}
 use Prim.Native.Nat.{_^_, _<_}
 use mathlib.Core.Path.{_≡_}

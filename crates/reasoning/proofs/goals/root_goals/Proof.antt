@@ -1,9 +1,7 @@
+-- `reasoning::goals::root_goals` meets its contract: several goals or one.
 use borrow.Author.Needs.{needs}
 use Rattle.reasoning.proofs.goals.root_goals.Statement.{statement}
 use Rattle.reasoning.proofs.goals.root_goals.Tie as tie
-use Rattle.reasoning.proofs.goals.root_goals.Reads as reads
-use Rattle.reasoning.proofs.goals.root_goals.Lts as lts
-use Rattle.reasoning.proofs.goals.several.Reads as several-reads
 use Rattle.reasoning.proofs.GoalWords.{goals-laws}
 
 several-requires : tie.Need-several-requires

@@ -1,9 +1,7 @@
+-- `reasoning::goals::several` meets its contract: something is left without the least.
 use borrow.Author.Needs.{needs}
 use Rattle.reasoning.proofs.goals.several.Statement.{statement}
 use Rattle.reasoning.proofs.goals.several.Tie as tie
-use Rattle.reasoning.proofs.goals.several.Reads as reads
-use Rattle.reasoning.proofs.goals.several.Lts as lts
-use Rattle.files.proofs.sets.without_lowest.Reads as without-lowest-reads
 use Rattle.reasoning.proofs.GoalWords.{chain-laws}
 
 without-lowest-requires : tie.Need-without-lowest-requires

@@ -1,8 +1,6 @@
+-- `reasoning::goals::towards` meets its contract: the climbs still to make.
 use Rattle.reasoning.proofs.goals.towards.Statement.{statement}
 use Rattle.reasoning.proofs.goals.towards.Tie as tie
-use Rattle.reasoning.proofs.goals.towards.Reads as reads
-use Rattle.reasoning.proofs.goals.towards.Lts as lts
-use Rattle.reasoning.proofs.steps.parent_of.Reads as parent-of-reads
 use borrow.Author.Needs.{needs}
 use Prim.Native.Nat.{_≤_}
 use mathlib.Core.Path.{_≡_}

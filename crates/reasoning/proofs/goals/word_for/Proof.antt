@@ -1,8 +1,6 @@
+-- `reasoning::goals::word_for` meets its contract: of paths of the table.
 use Rattle.reasoning.proofs.goals.word_for.Statement.{statement}
 use Rattle.reasoning.proofs.goals.word_for.Tie as tie
-use Rattle.reasoning.proofs.goals.word_for.Reads as reads
-use Rattle.reasoning.proofs.goals.word_for.Lts as lts
-use Rattle.reasoning.proofs.reach.reach.Reads as reach-reads
 use borrow.Author.Needs.{needs}
 use Rattle.reasoning.proofs.GoalWords.{word-laws}
 

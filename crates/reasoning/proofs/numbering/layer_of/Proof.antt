@@ -1,9 +1,6 @@
-use Rattle.reasoning.proofs.document.layer_of.Statement.{statement}
-use Rattle.reasoning.proofs.document.layer_of.Tie as tie
-use Rattle.reasoning.proofs.document.layer_of.Reads as reads
-use Rattle.reasoning.proofs.document.layer_of.Lts as lts
-use Rattle.reasoning.proofs.document.with_if.Reads as with-if-reads
-use Rattle.reasoning.proofs.steps.wide.Reads as wide-reads
+-- `reasoning::numbering::layer_of` meets its contract: the paths passed.
+use Rattle.reasoning.proofs.numbering.layer_of.Statement.{statement}
+use Rattle.reasoning.proofs.numbering.layer_of.Tie as tie
 use borrow.Author.Needs.{needs}
 use native.Mathlib.Omega.{arith}
 use Prim.Native.Nat.{_-_, _^_, _≤_, _<_}
@@ -37,10 +34,11 @@ loop-less c = search (needs, layer-of-laws)
 
 loop-again : tie.Need-loop-again Inv-loop μ-loop
 loop-again c =
-    let inv = c .before .before .before .before .loop .inv in
-    (search needs,
-    with-under _ _ _ _ (inv .1) (omega arith) (c .with-if .ensures),
-    layer-on _ _ _ _ (c .before .wide .result) _ (inv .2) (c .before .wide .ensures .0) (c .with-if .ensures))
+    let inv = c .before .before .before .before .loop .inv in (
+      search needs,
+      with-under _ _ _ _ (inv .1) (omega arith) (c .with-if .ensures),
+      layer-on _ _ _ _ (c .before .wide .result) _ (inv .2) (c .before .wide .ensures .0) (c .with-if .ensures),
+    )
 
 returns : tie.Need-returns Inv-loop μ-loop
 returns c = search (needs, layer-of-laws)

@@ -1,10 +1,7 @@
+-- `reasoning::numbering::parts_on` meets its contract: the part with all goals and the one-goal parts.
 use borrow.Author.Needs.{needs}
-use Rattle.reasoning.proofs.document.parts_on.Statement.{statement}
-use Rattle.reasoning.proofs.document.parts_on.Tie as tie
-use Rattle.reasoning.proofs.document.parts_on.Reads as reads
-use Rattle.reasoning.proofs.document.parts_on.Lts as lts
-use Rattle.files.proofs.sets.size.Reads as size-reads
-use Rattle.reasoning.proofs.document.bit_of.Reads as bit-of-reads
+use Rattle.reasoning.proofs.numbering.parts_on.Statement.{statement}
+use Rattle.reasoning.proofs.numbering.parts_on.Tie as tie
 use Rattle.reasoning.proofs.Places.{parts-are}
 
 bit-of-requires : tie.Need-bit-of-requires

@@ -1,11 +1,8 @@
-use Rattle.reasoning.proofs.document.place_all.Statement.{statement}
-use Rattle.reasoning.proofs.document.place_all.Tie as tie
-use Rattle.reasoning.proofs.document.place_all.Reads as reads
-use Rattle.reasoning.proofs.document.place_all.Lts as lts
-use Rattle.reasoning.proofs.document.layer_of.Reads as layer-of-reads
-use Rattle.reasoning.proofs.document.place_layer.Reads as place-layer-reads
+-- `reasoning::numbering::place_all` meets its contract: layer by layer, what remains is the whole.
+use Rattle.reasoning.proofs.numbering.place_all.Statement.{statement}
+use Rattle.reasoning.proofs.numbering.place_all.Tie as tie
 use borrow.Author.Needs.{needs}
-use Prim.Native.Nat.{_+_, _*_, _-_, _≤_, _<_}
+use Prim.Native.Nat.{_+_, _*_, _-_, _≤_}
 use mathlib.Core.Path.{_≡_}
 use Rattle.reasoning.specs.Arrays.{parentOf}
 use Rattle.reasoning.specs.Handed.{layersFrom, pathOrder}

@@ -1,10 +1,6 @@
-use Rattle.reasoning.proofs.document.place_layer.Statement.{statement}
-use Rattle.reasoning.proofs.document.place_layer.Tie as tie
-use Rattle.reasoning.proofs.document.place_layer.Reads as reads
-use Rattle.reasoning.proofs.document.place_layer.Lts as lts
-use Rattle.files.proofs.sets.lowest.Reads as lowest-reads
-use Rattle.files.proofs.sets.without_lowest.Reads as without-lowest-reads
-use Rattle.reasoning.proofs.document.parts_on.Reads as parts-on-reads
+-- `reasoning::numbering::place_layer` meets its contract: what is stored and what remains is the whole.
+use Rattle.reasoning.proofs.numbering.place_layer.Statement.{statement}
+use Rattle.reasoning.proofs.numbering.place_layer.Tie as tie
 use borrow.Author.Needs.{needs}
 use Prim.Native.Nat.{_+_, _*_, _^_, _≤_, _<_}
 use mathlib.Core.Path.{_≡_}

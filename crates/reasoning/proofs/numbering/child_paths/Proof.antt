@@ -1,9 +1,6 @@
-use Rattle.reasoning.proofs.document.child_paths.Statement.{statement}
-use Rattle.reasoning.proofs.document.child_paths.Tie as tie
-use Rattle.reasoning.proofs.document.child_paths.Reads as reads
-use Rattle.reasoning.proofs.document.child_paths.Lts as lts
-use Rattle.reasoning.proofs.document.with_if.Reads as with-if-reads
-use Rattle.reasoning.proofs.steps.parent_of.Reads as parent-of-reads
+-- `reasoning::numbering::child_paths` meets its contract: the paths passed.
+use Rattle.reasoning.proofs.numbering.child_paths.Statement.{statement}
+use Rattle.reasoning.proofs.numbering.child_paths.Tie as tie
 use borrow.Author.Needs.{needs}
 use native.Mathlib.Omega.{arith}
 use Prim.Native.Nat.{_-_, _^_, _≤_, _<_}
@@ -35,11 +32,12 @@ loop-less c = search (needs, child-paths-laws)
 
 loop-again : tie.Need-loop-again Inv-loop μ-loop
 loop-again c =
-    let inv = c .before .before .before .loop .inv in
-    (search needs,
-    search needs,
-    with-under _ _ _ _ (inv .2) (omega arith) (c .with-if .ensures),
-    child-on _ _ _ _ (c .before .parent-of .result) _ (inv .0) (inv .3) (c .before .parent-of .ensures .0) (c .with-if .ensures))
+    let inv = c .before .before .before .loop .inv in (
+      search needs,
+      search needs,
+      with-under _ _ _ _ (inv .2) (omega arith) (c .with-if .ensures),
+      child-on _ _ _ _ (c .before .parent-of .result) _ (inv .0) (inv .3) (c .before .parent-of .ensures .0) (c .with-if .ensures),
+    )
 
 returns : tie.Need-returns Inv-loop μ-loop
 returns c = search (needs, child-paths-laws)

@@ -1,9 +1,7 @@
+-- `reasoning::numbering::with_if` meets its contract: with the path or as it was.
 use borrow.Author.Needs.{needs}
-use Rattle.reasoning.proofs.document.with_if.Statement.{statement}
-use Rattle.reasoning.proofs.document.with_if.Tie as tie
-use Rattle.reasoning.proofs.document.with_if.Reads as reads
-use Rattle.reasoning.proofs.document.with_if.Lts as lts
-use Rattle.files.proofs.sets.with.Reads as with-reads
+use Rattle.reasoning.proofs.numbering.with_if.Statement.{statement}
+use Rattle.reasoning.proofs.numbering.with_if.Tie as tie
 use Rattle.reasoning.proofs.Places.{with-laws}
 
 with-requires : tie.Need-with-requires

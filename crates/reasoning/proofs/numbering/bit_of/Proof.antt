@@ -1,9 +1,7 @@
+-- `reasoning::numbering::bit_of` meets its contract: the test's number.
 use borrow.Author.Needs.{needs}
-use Rattle.reasoning.proofs.document.bit_of.Statement.{statement}
-use Rattle.reasoning.proofs.document.bit_of.Tie as tie
-use Rattle.reasoning.proofs.document.bit_of.Reads as reads
-use Rattle.reasoning.proofs.document.bit_of.Lts as lts
-use Rattle.files.proofs.sets.has.Reads as has-reads
+use Rattle.reasoning.proofs.numbering.bit_of.Statement.{statement}
+use Rattle.reasoning.proofs.numbering.bit_of.Tie as tie
 use Rattle.reasoning.proofs.Places.{bit-laws}
 
 has-requires : tie.Need-has-requires

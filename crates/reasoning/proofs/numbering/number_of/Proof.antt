@@ -1,11 +1,7 @@
+-- `reasoning::numbering::number_of` meets its contract: what stands before it on its path.
 use borrow.Author.Needs.{needs}
-use Rattle.reasoning.proofs.document.number_of.Statement.{statement}
-use Rattle.reasoning.proofs.document.number_of.Tie as tie
-use Rattle.reasoning.proofs.document.number_of.Reads as reads
-use Rattle.reasoning.proofs.document.number_of.Lts as lts
-use Rattle.files.proofs.sets.size_below.Reads as size-below-reads
-use Rattle.reasoning.proofs.document.bit_of.Reads as bit-of-reads
-use Rattle.reasoning.proofs.document.place_at.Reads as place-at-reads
+use Rattle.reasoning.proofs.numbering.number_of.Statement.{statement}
+use Rattle.reasoning.proofs.numbering.number_of.Tie as tie
 use Rattle.reasoning.proofs.Emitting.{number-is}
 
 bit-of-requires : tie.Need-bit-of-requires
