@@ -2,6 +2,7 @@
 pub mod consistency;
 pub(crate) mod document;
 pub(crate) mod goals;
+pub(crate) mod numbering;
 pub mod question;
 pub(crate) mod reach;
 pub(crate) mod steps;
