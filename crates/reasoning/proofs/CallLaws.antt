@@ -15,7 +15,7 @@ use Rattle.files.specs.Sets.{Has}
 use Rattle.files.specs.Table.{Rule}
 use Rattle.files.specs.Writing.{tablePasses, put, wrapped, Puts}
 use Rattle.files.proofs.TableTests.{passes-valid}
-use Rattle.reasoning.specs.declared.consistency.Consistency.{Consistency}
+use Rattle.reasoning.specs.declared.consistency.Verdict.{Verdict}
 use Rattle.reasoning.specs.declared.question.Reply.{Reply}
 use Rattle.reasoning.specs.Arrays.{parentOf, ruleList, Sound}
 use Rattle.reasoning.specs.Calls.{
@@ -110,11 +110,11 @@ collected {ns = ns} numbers out {w} {after} b e p =
 
 module _ (t : Rules) (out : List ℕ) (word : t .required < 2 ^ 64) where
   -- a table that is not valid
-  pub consistency-refuses : tablePasses t ≡ false → DecidesConsistency t out (Consistency.Refused 12 0) out
+  pub consistency-refuses : tablePasses t ≡ false → DecidesConsistency t out (Verdict.Refused 12 0) out
   consistency-refuses e =
       let z = consistency-invalid t out e in
-      consistency-decides t out (Consistency.Refused 12 0) out word (sym (ap (λ (x : Answered Consistency). x .answer) z))
-      (sym (ap (λ (x : Answered Consistency). x .buffer) z))
+      consistency-decides t out (Verdict.Refused 12 0) out word (sym (ap (λ (x : Answered Verdict). x .answer) z))
+      (sym (ap (λ (x : Answered Verdict). x .buffer) z))
 
   module _ (passes : tablePasses t ≡ true) (parent : List ℕ) (lent : parent ≡ parentsIn (t .parent) (t .paths)) where
     valid : ValidTable t
@@ -135,9 +135,9 @@ module _ (t : Rules) (out : List ℕ) (word : t .required < 2 ^ 64) where
 
       -- consistent: the document was put
       pub consistency-hands : consistentb (parentOf parent) (arrayRules t) (t .paths) (askedOf t) ≡ true
-          → (w : Written) (r : Consistency) (after : List ℕ)
+          → (w : Written) (r : Verdict) (after : List ℕ)
           → Puts (put (bytesOfAll (handedNumbers (parentOf parent) (t .paths) R (startConsistency (askedOf t)))) out) w after
-          → r ≡ answerOf Consistency.Consistent Consistency.Refused w → DecidesConsistency t out r after
+          → r ≡ answerOf Verdict.Consistent Verdict.Refused w → DecidesConsistency t out r after
       consistency-hands f w r after p g =
           let same : bytesOfAll (handedNumbers (parentOf parent) (t .paths) R (startConsistency (askedOf t)))
           ≡ documentBytes t (startConsistency (askedOf t)) =
@@ -145,20 +145,20 @@ module _ (t : Rules) (out : List ℕ) (word : t .required < 2 ^ 64) where
           ∙ words-bytes t valid words-of (asked-begins t word valid) in
           let test =
           subst₂ (λ (z : ℕ → ℕ) (l : List Rule). consistentb z l (t .paths) (askedOf t) ≡ true) parents-same (arrays-rules t) f in
-          let h = puts-answer Consistency.Consistent Consistency.Refused (documentBytes t (startConsistency (askedOf t))) out
+          let h = puts-answer Verdict.Consistent Verdict.Refused (documentBytes t (startConsistency (askedOf t))) out
           (consistency-agrees t out passes test) (subst (λ (b : List ℕ). Puts (put b out) w after) same p) g in
           consistency-decides t out r after word (h .0) (h .1)
 
     -- inconsistent: the evidence was put
     pub consistency-shows : consistentb (parentOf parent) (arrayRules t) (t .paths) (askedOf t) ≡ false → (numbers : List ℕ)
         → numbers ≡ inconsistentNumbers (parentOf parent) (arrayRules t) (t .paths) (askedOf t)
-        → (w : Written) (r : Consistency) (after : List ℕ) → Puts (put (bytesOfAll (wrapped numbers)) out) w after
-        → r ≡ answerOf Consistency.Inconsistent Consistency.Refused w → DecidesConsistency t out r after
+        → (w : Written) (r : Verdict) (after : List ℕ) → Puts (put (bytesOfAll (wrapped numbers)) out) w after
+        → r ≡ answerOf Verdict.Inconsistent Verdict.Refused w → DecidesConsistency t out r after
     unfolding inconsistentBytes
     consistency-shows f numbers e w r after p g =
         let test = subst₂ (λ (z : ℕ → ℕ) (l : List Rule). consistentb z l (t .paths) (askedOf t) ≡ false) parents-same (arrays-rules t) f in
         let are = e ∙ ap₂ (λ (z : ℕ → ℕ) (l : List Rule). inconsistentNumbers z l (t .paths) (askedOf t)) parents-same (arrays-rules t) in
-        let h = puts-answer Consistency.Inconsistent Consistency.Refused (inconsistentBytes t) out
+        let h = puts-answer Verdict.Inconsistent Verdict.Refused (inconsistentBytes t) out
         (consistency-conflicts t out passes test)
         (collected numbers out (conflict-bounded t word valid (λ c. subst T test c)) are p) g in
         consistency-decides t out r after word (h .0) (h .1)

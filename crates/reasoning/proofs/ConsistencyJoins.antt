@@ -11,7 +11,7 @@ use Rattle.files.specs.declared.rules.Rules.{Rules}
 use Rattle.files.specs.Rules.{rulesOf, ValidTable}
 use Rattle.files.specs.Writing.{tablePasses, put}
 use Rattle.files.proofs.TableTests.{passes-valid}
-use Rattle.reasoning.specs.declared.consistency.Consistency.{Consistency}
+use Rattle.reasoning.specs.declared.consistency.Verdict.{Verdict}
 use Rattle.reasoning.specs.Calls.{
   parentsOf,
   ruleListOf,
@@ -50,18 +50,18 @@ Some t = Consistent (parentsOf t) (ruleListOf t) (t .paths) (rulesOf t .required
 -- ---- the answer by its tests
 
 module _ (t : Rules) (out : List ℕ) where
-  pub consistency-invalid : tablePasses t ≡ false → consistencyAnswer t out ≡ record { answer = Consistency.Refused 12 0; buffer = out }
+  pub consistency-invalid : tablePasses t ≡ false → consistencyAnswer t out ≡ record { answer = Verdict.Refused 12 0; buffer = out }
   unfolding consistencyAnswer
   consistency-invalid e = rw (consistencyAnswer, e) refl
 
   pub consistency-agrees : tablePasses t ≡ true → consistentb (parentsOf t) (ruleListOf t) (t .paths) (askedOf t) ≡ true
       → consistencyAnswer t out
-      ≡ answered Consistency.Consistent Consistency.Refused (put (documentBytes t (startConsistency (askedOf t))) out)
+      ≡ answered Verdict.Consistent Verdict.Refused (put (documentBytes t (startConsistency (askedOf t))) out)
   unfolding consistencyAnswer
   consistency-agrees e f = rw (consistencyAnswer, e, f) refl
 
   pub consistency-conflicts : tablePasses t ≡ true → consistentb (parentsOf t) (ruleListOf t) (t .paths) (askedOf t) ≡ false
-      → consistencyAnswer t out ≡ answered Consistency.Inconsistent Consistency.Refused (put (inconsistentBytes t) out)
+      → consistencyAnswer t out ≡ answered Verdict.Inconsistent Verdict.Refused (put (inconsistentBytes t) out)
   unfolding consistencyAnswer
   consistency-conflicts e f = rw (consistencyAnswer, e, f) refl
 
@@ -124,25 +124,25 @@ module _ (t : Rules) (word : t .required < 2 ^ 64) (v : ValidTable t) where
 -- ---- the cases of an answer
 
 -- what consistency may answer and leave
-pub data ConsistencyCase (t : Rules) (out : List ℕ) (r : Consistency) (after : List ℕ) : Type 0 where
-  notValid : (ValidTable t → ⊥) → r ≡ Consistency.Refused 12 0 → after ≡ out → ConsistencyCase t out r after
+pub data ConsistencyCase (t : Rules) (out : List ℕ) (r : Verdict) (after : List ℕ) : Type 0 where
+  notValid : (ValidTable t → ⊥) → r ≡ Verdict.Refused 12 0 → after ≡ out → ConsistencyCase t out r after
   noRoom : ValidTable t → length out < 65536
       → ((Consistent (parentsOf t) (ruleListOf t) (t .paths) (rulesOf t .required) → ⊥) → length out < 392)
-      → r ≡ Consistency.Refused 20 0 → after ≡ out → ConsistencyCase t out r after
-  agrees : (n : ℕ) → ValidTable t → r ≡ Consistency.Consistent n → n ≤ length out
+      → r ≡ Verdict.Refused 20 0 → after ≡ out → ConsistencyCase t out r after
+  agrees : (n : ℕ) → ValidTable t → r ≡ Verdict.Consistent n → n ≤ length out
       → HandsBack t (take n after) (Witnesses (parentsOf t) (ruleListOf t) (t .paths) (rulesOf t .required)) → ConsistencyCase t out r after
-  conflicts : (n : ℕ) → ValidTable t → r ≡ Consistency.Inconsistent n → n ≤ length out
+  conflicts : (n : ℕ) → ValidTable t → r ≡ Verdict.Inconsistent n → n ≤ length out
       → (Consistent (parentsOf t) (ruleListOf t) (t .paths) (rulesOf t .required) → ⊥)
       → BringsEvidence (take n after) (ShowsInconsistent (parentsOf t) (ruleListOf t) (askedOf t)) → ConsistencyCase t out r after
 
-module _ (t : Rules) (out : List ℕ) (r : Consistency) (after : List ℕ) (word : t .required < 2 ^ 64)
+module _ (t : Rules) (out : List ℕ) (r : Verdict) (after : List ℕ) (word : t .required < 2 ^ 64)
     (is : r ≡ consistencyAnswer t out .answer) (leaves : after ≡ consistencyAnswer t out .buffer) where
   -- the answer is in one of the cases
   pub consistency-case : ConsistencyCase t out r after
   consistency-case = pick (tablePasses t) refl (agreesb t) refl
     where
       agreed : ValidTable t → T (agreesb t)
-          → Placed Consistency.Consistent Consistency.Refused (documentBytes t (startConsistency (askedOf t))) out r after
+          → Placed Verdict.Consistent Verdict.Refused (documentBytes t (startConsistency (askedOf t))) out r after
           → ConsistencyCase t out r after
       agreed v c (fills h e s) =
           agrees (length (documentBytes t (startConsistency (askedOf t)))) v e h
@@ -152,7 +152,7 @@ module _ (t : Rules) (out : List ℕ) (r : Consistency) (after : List ℕ) (word
       agreed v c (tooLong h e s) = noRoom v (omega (arith, consistent-room t word v)) (λ n. absurd (n (agrees-some t word v .0 c))) e s
 
       conflicting : ValidTable t → (T (agreesb t) → ⊥)
-          → Placed Consistency.Inconsistent Consistency.Refused (inconsistentBytes t) out r after → ConsistencyCase t out r after
+          → Placed Verdict.Inconsistent Verdict.Refused (inconsistentBytes t) out r after → ConsistencyCase t out r after
       conflicting v n (fills h e s) =
           conflicts (length (inconsistentBytes t)) v e h (λ c. n (agrees-some t word v .1 c))
           (subst (λ (b : List ℕ). BringsEvidence b (ShowsInconsistent (parentsOf t) (ruleListOf t) (askedOf t))) (sym s)
@@ -163,14 +163,14 @@ module _ (t : Rules) (out : List ℕ) (r : Consistency) (after : List ℕ) (word
       pick false e b f =
           let z = consistency-invalid t out e in
           notValid (λ v. subst T (sym (passes-valid t word .1 v) ∙ e) tt)
-          (is ∙ ap (λ (x : Answered Consistency). x .answer) z) (leaves ∙ ap (λ (x : Answered Consistency). x .buffer) z)
+          (is ∙ ap (λ (x : Answered Verdict). x .answer) z) (leaves ∙ ap (λ (x : Answered Verdict). x .buffer) z)
       pick true e true f =
           agreed (passes-valid t word .0 e) (subst T (sym f) tt)
-          (placed-at Consistency.Consistent Consistency.Refused (documentBytes t (startConsistency (askedOf t))) out
+          (placed-at Verdict.Consistent Verdict.Refused (documentBytes t (startConsistency (askedOf t))) out
           (consistency-agrees t out e f) is leaves)
       pick true e false f =
           conflicting (passes-valid t word .0 e) (λ c. subst T f c)
-          (placed-at Consistency.Inconsistent Consistency.Refused (inconsistentBytes t) out (consistency-conflicts t out e f) is leaves)
+          (placed-at Verdict.Inconsistent Verdict.Refused (inconsistentBytes t) out (consistency-conflicts t out e f) is leaves)
 
   -- so it is what the contract says
   pub consistency-decides : DecidesConsistency t out r after
@@ -184,8 +184,8 @@ module _ (t : Rules) (out : List ℕ) (r : Consistency) (after : List ℕ) (word
         refused = λ m at f. (let z : _≡_ {A = ℕ} at 0 = cc in z, s);
         consistent = λ m f. absurd (let z : _≡_ {A = ℕ} 0 1 = cc in omega arith);
         inconsistent = λ m f. absurd (let z : _≡_ {A = ℕ} 0 1 = cc in omega arith);
-        within = λ m. ⊎-elim (λ (f : r ≡ Consistency.Consistent m). absurd (let z : _≡_ {A = ℕ} 0 1 = cc in omega arith))
-            (λ (f : r ≡ Consistency.Inconsistent m). absurd (let z : _≡_ {A = ℕ} 0 1 = cc in omega arith));
+        within = λ m. ⊎-elim (λ (f : r ≡ Verdict.Consistent m). absurd (let z : _≡_ {A = ℕ} 0 1 = cc in omega arith))
+            (λ (f : r ≡ Verdict.Inconsistent m). absurd (let z : _≡_ {A = ℕ} 0 1 = cc in omega arith));
         room = λ h f. let z : _≡_ {A = ℕ} 12 20 = cc in omega arith;
       }
       by (noRoom v l k e s) = record {
@@ -195,8 +195,8 @@ module _ (t : Rules) (out : List ℕ) (r : Consistency) (after : List ℕ) (word
         refused = λ m at f. (let z : _≡_ {A = ℕ} at 0 = cc in z, s);
         consistent = λ m f. absurd (let z : _≡_ {A = ℕ} 0 1 = cc in omega arith);
         inconsistent = λ m f. absurd (let z : _≡_ {A = ℕ} 0 1 = cc in omega arith);
-        within = λ m. ⊎-elim (λ (f : r ≡ Consistency.Consistent m). absurd (let z : _≡_ {A = ℕ} 0 1 = cc in omega arith))
-            (λ (f : r ≡ Consistency.Inconsistent m). absurd (let z : _≡_ {A = ℕ} 0 1 = cc in omega arith));
+        within = λ m. ⊎-elim (λ (f : r ≡ Verdict.Consistent m). absurd (let z : _≡_ {A = ℕ} 0 1 = cc in omega arith))
+            (λ (f : r ≡ Verdict.Inconsistent m). absurd (let z : _≡_ {A = ℕ} 0 1 = cc in omega arith));
         room = λ h f. omega arith;
       }
       by (agrees n v e l w) = record {
@@ -208,8 +208,8 @@ module _ (t : Rules) (out : List ℕ) (r : Consistency) (after : List ℕ) (word
             let z : n ≡ m = cc in
             subst (λ (k : ℕ). HandsBack t (take k after) (Witnesses (parentsOf t) (ruleListOf t) (t .paths) (rulesOf t .required))) z w;
         inconsistent = λ m f. absurd (let z : _≡_ {A = ℕ} 0 1 = cc in omega arith);
-        within = λ m. ⊎-elim (λ (f : r ≡ Consistency.Consistent m). let z : n ≡ m = cc in omega arith)
-            (λ (f : r ≡ Consistency.Inconsistent m). absurd (let z : _≡_ {A = ℕ} 0 1 = cc in omega arith));
+        within = λ m. ⊎-elim (λ (f : r ≡ Verdict.Consistent m). let z : n ≡ m = cc in omega arith)
+            (λ (f : r ≡ Verdict.Inconsistent m). absurd (let z : _≡_ {A = ℕ} 0 1 = cc in omega arith));
         room = λ h f. let z : _≡_ {A = ℕ} 0 1 = cc in omega arith;
       }
       by (conflicts n v e l c w) = record {
@@ -221,12 +221,12 @@ module _ (t : Rules) (out : List ℕ) (r : Consistency) (after : List ℕ) (word
         inconsistent = λ m f.
             let z : n ≡ m = cc in
             (c, subst (λ (k : ℕ). BringsEvidence (take k after) (ShowsInconsistent (parentsOf t) (ruleListOf t) (askedOf t))) z w);
-        within = λ m. ⊎-elim (λ (f : r ≡ Consistency.Consistent m). absurd (let z : _≡_ {A = ℕ} 0 1 = cc in omega arith))
-            (λ (f : r ≡ Consistency.Inconsistent m). let z : n ≡ m = cc in omega arith);
+        within = λ m. ⊎-elim (λ (f : r ≡ Verdict.Consistent m). absurd (let z : _≡_ {A = ℕ} 0 1 = cc in omega arith))
+            (λ (f : r ≡ Verdict.Inconsistent m). let z : n ≡ m = cc in omega arith);
         room = λ h f. let z : _≡_ {A = ℕ} 0 1 = cc in omega arith;
       }
 
 -- no second answer, and no second buffer, meets the contract
-pub consistency-unique : (t : Rules) (out : List ℕ) (r q : Consistency) (after other : List ℕ) → DecidesConsistency t out r after
+pub consistency-unique : (t : Rules) (out : List ℕ) (r q : Verdict) (after other : List ℕ) → DecidesConsistency t out r after
     → DecidesConsistency t out q other → (r ≡ q) × (after ≡ other)
 consistency-unique t out r q after other h k = (h .answer ∙ sym (k .answer), h .buffer ∙ sym (k .buffer))

@@ -12,7 +12,7 @@ use lib.ListN.{length}
 use Rattle.files.specs.declared.rules.Rules.{Rules}
 use Rattle.files.specs.Rules.{rulesOf, ValidTable}
 use Rattle.documents.specs.Tree.{Forest}
-use Rattle.reasoning.specs.declared.consistency.Consistency.{Consistency}
+use Rattle.reasoning.specs.declared.consistency.Verdict.{Verdict}
 use Rattle.reasoning.specs.declared.question.Reply.{Reply}
 use Rattle.reasoning.specs.Calls.{
   parentsOf,
@@ -29,17 +29,17 @@ use Rattle.reasoning.proofs.ConsistencyJoins.{ConsistencyCase, consiste
 use Rattle.reasoning.proofs.QuestionJoins.{QuestionCase, ask-case, breaks-follows}
 
 module _ (t : Rules) (word : t .required < 2 ^ 64) (v : ValidTable t) (out : List ℕ) where
-  module _ (r : Consistency) (after : List ℕ) (d : DecidesConsistency t out r after) where
+  module _ (r : Verdict) (after : List ℕ) (d : DecidesConsistency t out r after) where
     -- consistent exactly if some document of the table obeys the rules and holds every required path
     pub consistent-means : 65536 ≤ length out
-        → ((n : ℕ) × (r ≡ Consistency.Consistent n)) ↔ Consistent (parentsOf t) (ruleListOf t) (t .paths) (rulesOf t .required)
+        → ((n : ℕ) × (r ≡ Verdict.Consistent n)) ↔ Consistent (parentsOf t) (ruleListOf t) (t .paths) (rulesOf t .required)
     consistent-means room = (
       λ a. let h = d .consistent (a .0) (a .1) in record { document = h .tree; witnesses = h .good },
       λ c. by c (consistency-case t out r after word (d .answer) (d .buffer)),
     )
       where
         by : Consistent (parentsOf t) (ruleListOf t) (t .paths) (rulesOf t .required) → ConsistencyCase t out r after
-            → (n : ℕ) × (r ≡ Consistency.Consistent n)
+            → (n : ℕ) × (r ≡ Verdict.Consistent n)
         by c (ConsistencyCase.notValid n e s) = absurd (n v)
         by c (ConsistencyCase.noRoom w l k e s) = absurd (omega arith)
         by c (ConsistencyCase.agrees n w e l h) = (n, e)
@@ -47,7 +47,7 @@ module _ (t : Rules) (word : t .required < 2 ^ 64) (v : ValidTable t) (out : Lis
 
     -- inconsistent exactly if none does; its evidence needs at most 392 bytes
     pub inconsistent-means : 392 ≤ length out
-        → ((n : ℕ) × (r ≡ Consistency.Inconsistent n))
+        → ((n : ℕ) × (r ≡ Verdict.Inconsistent n))
         ↔ (Consistent (parentsOf t) (ruleListOf t) (t .paths) (rulesOf t .required) → ⊥)
     inconsistent-means room = (
       λ a. d .inconsistent (a .0) (a .1) .0,
@@ -55,7 +55,7 @@ module _ (t : Rules) (word : t .required < 2 ^ 64) (v : ValidTable t) (out : Lis
     )
       where
         by : (Consistent (parentsOf t) (ruleListOf t) (t .paths) (rulesOf t .required) → ⊥) → ConsistencyCase t out r after
-            → (n : ℕ) × (r ≡ Consistency.Inconsistent n)
+            → (n : ℕ) × (r ≡ Verdict.Inconsistent n)
         by none (ConsistencyCase.notValid n e s) = absurd (n v)
         by none (ConsistencyCase.noRoom w l k e s) = absurd (omega (arith, k none))
         by none (ConsistencyCase.agrees n w e l h) = absurd (none (record { document = h .tree; witnesses = h .good }))

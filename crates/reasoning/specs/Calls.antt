@@ -18,7 +18,7 @@ use Rattle.files.specs.Writing.{tablePasses, Put, put}
 use Rattle.documents.specs.Tree.{Forest, Document}
 use Rattle.documents.specs.Obey.{ObeysRule, Obeys}
 use Rattle.documents.specs.PartList.{Entry, documentFile, StandsFor}
-use Rattle.reasoning.specs.declared.consistency.Consistency.{Consistency}
+use Rattle.reasoning.specs.declared.consistency.Verdict.{Verdict}
 use Rattle.reasoning.specs.declared.question.Reply.{Reply}
 use Rattle.reasoning.specs.Reachable.{reachable}
 use Rattle.reasoning.specs.Evidence.{yesb, consistentb, evidenceNumbers, inconsistentNumbers, Shows, ShowsInconsistent}
@@ -61,14 +61,14 @@ unfoldable pub evidenceBytes : Rules → (kind p q : ℕ) → List ℕ
 evidenceBytes t kind p q = bytesOfAll (evidenceNumbers (parentsOf t) (ruleListOf t) (t .paths) kind p q)
 
 -- what consistency answers, and the buffer: refusal 12 first, 20 last
-unfoldable pub consistencyAnswer : Rules → List ℕ → Answered Consistency
+unfoldable pub consistencyAnswer : Rules → List ℕ → Answered Verdict
 consistencyAnswer t out =
     elim (tablePasses t) [
       | true ↦ elim (consistentb (parentsOf t) (ruleListOf t) (t .paths) (askedOf t)) [
-        | true ↦ answered Consistency.Consistent Consistency.Refused (put (documentBytes t (startConsistency (askedOf t))) out)
-        | false ↦ answered Consistency.Inconsistent Consistency.Refused (put (inconsistentBytes t) out)
+        | true ↦ answered Verdict.Consistent Verdict.Refused (put (documentBytes t (startConsistency (askedOf t))) out)
+        | false ↦ answered Verdict.Inconsistent Verdict.Refused (put (inconsistentBytes t) out)
       ]
-      | false ↦ record { answer = Consistency.Refused 12 0; buffer = out }
+      | false ↦ record { answer = Verdict.Refused 12 0; buffer = out }
     ]
 
 -- a question that can be asked of a table: its kind is 1 to 3 and its paths are in the table (else refusal 13)
@@ -124,23 +124,23 @@ abbrev pub questionOf : (kind p q : ℕ) → Rule
 questionOf kind p q = record { kind = kind; left = p; right = q }
 
 -- what consistency promises, on all tables and buffers
-pub record DecidesConsistency (t : Rules) (out : List ℕ) (r : Consistency) (after : List ℕ) : Type 0 where
+pub record DecidesConsistency (t : Rules) (out : List ℕ) (r : Verdict) (after : List ℕ) : Type 0 where
   -- the answer, and the whole buffer after the call
   pub answer : r ≡ consistencyAnswer t out .answer
   pub buffer : after ≡ consistencyAnswer t out .buffer
   -- refusal 12 exactly if the table is not valid; a refusal stands at 0 and leaves every byte
-  pub invalid : (r ≡ Consistency.Refused 12 0) ↔ (ValidTable t → ⊥)
-  pub refused : (k at : ℕ) → r ≡ Consistency.Refused k at → (at ≡ 0) × (after ≡ out)
+  pub invalid : (r ≡ Verdict.Refused 12 0) ↔ (ValidTable t → ⊥)
+  pub refused : (k at : ℕ) → r ≡ Verdict.Refused k at → (at ≡ 0) × (after ≡ out)
   -- consistent: some document obeys the rules and holds every required path, and it is handed back
-  pub consistent : (n : ℕ) → r ≡ Consistency.Consistent n
+  pub consistent : (n : ℕ) → r ≡ Verdict.Consistent n
       → HandsBack t (take n after) (Witnesses (parentsOf t) (ruleListOf t) (t .paths) (rulesOf t .required))
   -- inconsistent: no document does, and the evidence shows it
-  pub inconsistent : (n : ℕ) → r ≡ Consistency.Inconsistent n
+  pub inconsistent : (n : ℕ) → r ≡ Verdict.Inconsistent n
       → (Consistent (parentsOf t) (ruleListOf t) (t .paths) (rulesOf t .required) → ⊥)
       × BringsEvidence (take n after) (ShowsInconsistent (parentsOf t) (ruleListOf t) (askedOf t))
   -- the length is within the buffer, and in 65,536 bytes there is room for every answer
-  pub within : (n : ℕ) → (r ≡ Consistency.Consistent n) ⊎ (r ≡ Consistency.Inconsistent n) → n ≤ length out
-  pub room : 65536 ≤ length out → r ≡ Consistency.Refused 20 0 → ⊥
+  pub within : (n : ℕ) → (r ≡ Verdict.Consistent n) ⊎ (r ≡ Verdict.Inconsistent n) → n ≤ length out
+  pub room : 65536 ≤ length out → r ≡ Verdict.Refused 20 0 → ⊥
 
 -- what a question promises, on all tables, questions and buffers
 pub record AnswersQuestion (t : Rules) (kind p q : ℕ) (out : List ℕ) (r : Reply) (after : List ℕ) : Type 0 where
