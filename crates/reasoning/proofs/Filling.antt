@@ -23,7 +23,7 @@ use Rattle.reasoning.proofs.Reachable.{subtree-iff, reachable-iff, reac
 
 -- ---- depths
 
-depth-some : (parent : ℕ → ℕ) → Descending parent → (x : ℕ) → 1 ≤ depthOf parent x
+pub depth-some : (parent : ℕ → ℕ) → Descending parent → (x : ℕ) → 1 ≤ depthOf parent x
 depth-some parent desc zero = omega (arith, depth-root desc)
 depth-some parent desc (suc x) = omega (arith, depth-child desc (suc x) (omega arith))
 

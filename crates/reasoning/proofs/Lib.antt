@@ -23,3 +23,5 @@ pub mod HandedBack
 pub mod Equivalences
 pub mod Stepping
 pub mod Filling
+pub mod WordJoins
+pub mod Choosing

@@ -10,3 +10,4 @@ pub mod Decide
 pub mod Evidence
 pub mod Arrays
 pub mod Known
+pub mod Words

@@ -1,3 +1,4 @@
 // Walks, dead paths, evidence, and the documents handed back.
+pub(crate) mod choose;
 pub(crate) mod reach;
 pub(crate) mod steps;
