@@ -25,3 +25,4 @@ pub mod Stepping
 pub mod Filling
 pub mod WordJoins
 pub mod Choosing
+pub mod Seeking

@@ -11,3 +11,4 @@ pub mod Evidence
 pub mod Arrays
 pub mod Known
 pub mod Words
+pub mod Layers
