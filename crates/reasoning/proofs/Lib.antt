@@ -2,6 +2,7 @@
 pub mod Agreeing
 pub mod Answers
 pub mod CallLaws
+pub mod Choosing
 pub mod Completeness
 pub mod ConsistencyJoins
 pub mod Cut
@@ -44,6 +45,7 @@ pub mod Reachable
 pub mod ReadBack
 pub mod RootPair
 pub mod Search
+pub mod Seeking
 pub mod Shows
 pub mod Sizes
 pub mod Sorted
@@ -52,6 +54,7 @@ pub mod Stepping
 pub mod TableArrays
 pub mod ValidFits
 pub mod Walks
+pub mod WordJoins
 pub mod Writable
 pub mod Writes
 pub mod Written

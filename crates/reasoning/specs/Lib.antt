@@ -3,9 +3,12 @@ pub mod Calls
 pub mod Decide
 pub mod Emit
 pub mod Evidence
+pub mod Examples
 pub mod Follows
+pub mod Graph
 pub mod Handed
 pub mod Known
+pub mod Layers
 pub mod Least
 pub mod Order
 pub mod Parts
@@ -13,7 +16,6 @@ pub mod Reachable
 pub mod Required
 pub mod Search
 pub mod Walk
+pub mod Words
 pub mod Writer
 pub mod Written
-pub mod Examples
-pub mod Graph
