@@ -1,6 +1,7 @@
 // Walks, dead paths, evidence, and the documents handed back.
 pub mod consistency;
 pub(crate) mod document;
+pub(crate) mod emit;
 pub(crate) mod goals;
 pub(crate) mod numbering;
 pub mod question;
