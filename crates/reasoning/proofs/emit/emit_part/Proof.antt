@@ -1,7 +1,7 @@
--- `reasoning::document::emit_part` meets its contract: three pieces, one after the other.
+-- `reasoning::emit::emit_part` meets its contract: three pieces, one after the other.
 use borrow.Author.Needs.{needs}
-use Rattle.reasoning.proofs.document.emit_part.Statement.{statement}
-use Rattle.reasoning.proofs.document.emit_part.Tie as tie
+use Rattle.reasoning.proofs.emit.emit_part.Statement.{statement}
+use Rattle.reasoning.proofs.emit.emit_part.Tie as tie
 use Rattle.reasoning.proofs.EmittingParts.{part-laws}
 
 count-kids-requires : tie.Need-count-kids-requires

@@ -1,6 +1,6 @@
--- `reasoning::document::emit_kids_under` meets its contract: two pieces, one after the other.
-use Rattle.reasoning.proofs.document.emit_kids_under.Statement.{statement}
-use Rattle.reasoning.proofs.document.emit_kids_under.Tie as tie
+-- `reasoning::emit::emit_kids_under` meets its contract: two pieces, one after the other.
+use Rattle.reasoning.proofs.emit.emit_kids_under.Statement.{statement}
+use Rattle.reasoning.proofs.emit.emit_kids_under.Tie as tie
 use borrow.Author.Needs.{needs}
 use Rattle.reasoning.proofs.Emitting.{under-laws}
 

@@ -1,7 +1,7 @@
--- `reasoning::document::count_kids_under` meets its contract: the part with all goals and the one-goal parts.
+-- `reasoning::emit::count_kids_under` meets its contract: the part with all goals and the one-goal parts.
 use borrow.Author.Needs.{needs}
-use Rattle.reasoning.proofs.document.count_kids_under.Statement.{statement}
-use Rattle.reasoning.proofs.document.count_kids_under.Tie as tie
+use Rattle.reasoning.proofs.emit.count_kids_under.Statement.{statement}
+use Rattle.reasoning.proofs.emit.count_kids_under.Tie as tie
 use Rattle.reasoning.proofs.EmittingParts.{under-counted}
 
 subtree-requires : tie.Need-subtree-requires

@@ -1,7 +1,7 @@
--- `reasoning::document::emit` meets its contract: its bytes are counted, or stored too.
+-- `reasoning::emit::emit` meets its contract: its bytes are counted, or stored too.
 use borrow.Author.Needs.{needs}
-use Rattle.reasoning.proofs.document.emit.Statement.{statement}
-use Rattle.reasoning.proofs.document.emit.Tie as tie
+use Rattle.reasoning.proofs.emit.emit.Statement.{statement}
+use Rattle.reasoning.proofs.emit.emit.Tie as tie
 use Rattle.reasoning.proofs.Emitting.{number-laws}
 
 cast-v : tie.Need-cast-v

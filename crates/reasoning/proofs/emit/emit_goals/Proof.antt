@@ -1,6 +1,6 @@
--- `reasoning::document::emit_goals` meets its contract: what is emitted and what remains is the whole.
-use Rattle.reasoning.proofs.document.emit_goals.Statement.{statement}
-use Rattle.reasoning.proofs.document.emit_goals.Tie as tie
+-- `reasoning::emit::emit_goals` meets its contract: what is emitted and what remains is the whole.
+use Rattle.reasoning.proofs.emit.emit_goals.Statement.{statement}
+use Rattle.reasoning.proofs.emit.emit_goals.Tie as tie
 use borrow.Author.Needs.{needs}
 use Prim.Native.Nat.{_^_, _<_}
 use mathlib.Core.Path.{_≡_}

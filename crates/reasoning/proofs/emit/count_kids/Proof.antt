@@ -1,6 +1,6 @@
--- `reasoning::document::count_kids` meets its contract: what is counted and what remains is the whole.
-use Rattle.reasoning.proofs.document.count_kids.Statement.{statement}
-use Rattle.reasoning.proofs.document.count_kids.Tie as tie
+-- `reasoning::emit::count_kids` meets its contract: what is counted and what remains is the whole.
+use Rattle.reasoning.proofs.emit.count_kids.Statement.{statement}
+use Rattle.reasoning.proofs.emit.count_kids.Tie as tie
 use borrow.Author.Needs.{needs}
 use Prim.Native.Nat.{_+_, _*_, _^_, _≤_, _<_}
 use mathlib.Core.Path.{_≡_}

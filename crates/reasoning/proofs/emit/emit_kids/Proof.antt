@@ -1,6 +1,6 @@
--- `reasoning::document::emit_kids` meets its contract: what is emitted and what remains is the whole.
-use Rattle.reasoning.proofs.document.emit_kids.Statement.{statement}
-use Rattle.reasoning.proofs.document.emit_kids.Tie as tie
+-- `reasoning::emit::emit_kids` meets its contract: what is emitted and what remains is the whole.
+use Rattle.reasoning.proofs.emit.emit_kids.Statement.{statement}
+use Rattle.reasoning.proofs.emit.emit_kids.Tie as tie
 use borrow.Author.Needs.{needs}
 use Prim.Native.Nat.{_^_, _<_}
 use mathlib.Core.Path.{_≡_}

@@ -1,7 +1,7 @@
--- `reasoning::document::emit_whole` meets its contract: one number or none.
+-- `reasoning::emit::emit_whole` meets its contract: one number or none.
 use borrow.Author.Needs.{needs}
-use Rattle.reasoning.proofs.document.emit_whole.Statement.{statement}
-use Rattle.reasoning.proofs.document.emit_whole.Tie as tie
+use Rattle.reasoning.proofs.emit.emit_whole.Statement.{statement}
+use Rattle.reasoning.proofs.emit.emit_whole.Tie as tie
 use Rattle.reasoning.proofs.Emitting.{whole-number-laws}
 
 has-requires : tie.Need-has-requires

@@ -1,7 +1,7 @@
--- `reasoning::document::count_whole` meets its contract: one or none.
+-- `reasoning::emit::count_whole` meets its contract: one or none.
 use borrow.Author.Needs.{needs}
-use Rattle.reasoning.proofs.document.count_whole.Statement.{statement}
-use Rattle.reasoning.proofs.document.count_whole.Tie as tie
+use Rattle.reasoning.proofs.emit.count_whole.Statement.{statement}
+use Rattle.reasoning.proofs.emit.count_whole.Tie as tie
 use Rattle.reasoning.proofs.EmittingParts.{counted-laws}
 
 bit-of-requires : tie.Need-bit-of-requires
