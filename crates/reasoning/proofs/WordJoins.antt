@@ -14,7 +14,7 @@ use Rattle.files.specs.Rules.{rulesFrom}
 use Rattle.files.specs.Table.{Rule, Numbered, first, later}
 use Rattle.files.specs.Sets.{Has, hasb, withPath, union, common}
 use Rattle.files.proofs.SetBits.{same-sets, has-with, with-lt, not-has, bit-of-zero, has-union, union-lt, hasb-true, hasb-has}
-use Rattle.files.proofs.TableTests.{rules-from-length}
+use Rattle.files.proofs.Tables.{rules-length as all-length}
 use Rattle.documents.specs.Paths.{Below, belowb, contextOf}
 use Rattle.documents.proofs.Paths.{below-le, belowb-iff, contextOf-context}
 use Rattle.reasoning.specs.Reachable.{reachable, reachb}
@@ -88,7 +88,7 @@ ruleIn kind left right x = ruleOf (getD kind x 0) (getD left x 0) (getD right x 
 module _ (kind left right : List ℕ) (many : ℕ) where
   pub rules-length : length (ruleList kind left right many) ≡ many
   unfolding ruleList
-  rules-length = rules-from-length kind left right 0 many
+  rules-length = all-length kind left right 0 many
 
   module _ (x : ℕ) (h : x < many) where
     pub numbered-in : Numbered (ruleList kind left right many) x (ruleIn kind left right x)
