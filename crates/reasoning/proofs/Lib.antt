@@ -2,6 +2,7 @@
 pub mod Agreeing
 pub mod Answers
 pub mod CallLaws
+pub mod Calling
 pub mod Choosing
 pub mod Completeness
 pub mod ConsistencyJoins

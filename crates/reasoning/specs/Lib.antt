@@ -10,6 +10,7 @@ pub mod Handed
 pub mod Known
 pub mod Layers
 pub mod Least
+pub mod Lent
 pub mod Order
 pub mod Parts
 pub mod Reachable

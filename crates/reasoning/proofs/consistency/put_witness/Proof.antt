@@ -1,0 +1,25 @@
+use borrow.Author.Needs.{needs}
+use Rattle.reasoning.proofs.consistency.put_witness.Statement.{statement}
+use Rattle.reasoning.proofs.consistency.put_witness.Tie as tie
+use Rattle.reasoning.proofs.consistency.put_witness.Reads as reads
+use Rattle.reasoning.proofs.consistency.put_witness.Lts as lts
+use Rattle.reasoning.proofs.consistency.witnessed.Reads as witnessed-reads
+use Rattle.reasoning.proofs.document.write_document.Reads as write-document-reads
+use native.Mathlib.Omega.{arith}
+use Rattle.reasoning.proofs.Calling.{witness-writable, witness-put}
+
+write-document-requires : tie.Need-write-document-requires
+write-document-requires c κs = witness-writable _ (omega (arith, c .before .before .good)) _ _ _ _ (c .before .before .pre)
+
+witnessed-requires : tie.Need-witnessed-requires
+witnessed-requires c κs = search needs
+
+same-length : tie.Need-same-length
+same-length c = search needs
+
+returns : tie.Need-returns
+returns c = witness-put _ (omega (arith, c .before .before .before .before .before .before .good)) _ _ _ _ (c .before .before .before .before .before .before .pre) _ _ _ _ (c .before .before .before .write-document .ensures) (c .witnessed .ensures)
+
+pub put-witness-spec : {M : Type 1} → statement M
+put-witness-spec =
+    tie.close (tie.spec write-document-requires witnessed-requires same-length returns)
