@@ -1,25 +1,33 @@
 -- The calls: from a table that passed its test to what they promise.
-use Prim.Native.Nat.{ℕ, _^_, _<_}
+use Prim.Native.Nat.{ℕ, _+_, _^_, _<_, _≤_}
 use mathlib.Core.Path.{_≡_, refl, sym, ap, subst, _∙_}
-use mathlib.Core.Bool.{true, false}
+use mathlib.Core.Bool.{Bool, true, false}
 use mathlib.Core.List.{List, _∷_}
+use native.Mathlib.Omega.{arith}
+use lib.ListN.{length, take, drop, replicate}
+use lib.Seq.{sets-eq, take-at}
 use Rattle.files.specs.declared.rules.Rules.{Rules}
 use Rattle.files.specs.declared.write.Written.{Written}
 use Rattle.files.specs.declared.write.Written.the-variants.{Length, Refused}
 use Rattle.files.specs.Number.{bytesOfAll}
 use Rattle.files.specs.Rules.{rulesOf, ValidTable}
-use Rattle.files.specs.Writing.{put, Puts}
+use Rattle.files.specs.Writing.{put, wrapped, Puts}
+use Rattle.files.specs.Sets.{withPath}
 use Rattle.files.proofs.TableTests.{passes-valid}
 use Rattle.reasoning.specs.declared.consistency.Verdict.{Verdict}
 use Rattle.reasoning.specs.declared.question.Reply.{Reply}
-use Rattle.reasoning.specs.Arrays.{parentOf, ruleList}
+use Rattle.reasoning.specs.Arrays.{parentOf, ruleList, Parents, Sound}
 use Rattle.reasoning.specs.Calls.{askedOf, parentsOf, answerOf, DecidesConsistency}
 use Rattle.reasoning.specs.Emit.{Writable}
-use Rattle.reasoning.specs.Evidence.{consistentb}
+use Rattle.reasoning.specs.Evidence.{consistentb, inconsistentNumbers}
+use Rattle.reasoning.specs.Decide.{clashing}
+use Rattle.reasoning.specs.Known.{Reaches, Known}
+use Rattle.reasoning.specs.Layers.{Stored}
+use Rattle.reasoning.specs.Words.{Decided}
 use Rattle.reasoning.specs.Handed.{handedNumbers, startConsistency}
-use Rattle.reasoning.specs.Lent.{LentTable, Witnessed}
+use Rattle.reasoning.specs.Lent.{Passed, LentTable, Witnessed, Conflicting}
 use Rattle.reasoning.specs.Writer.{wordFor, startOf}
-use Rattle.reasoning.proofs.CallLaws.{consistency-hands}
+use Rattle.reasoning.proofs.CallLaws.{consistency-hands, consistency-shows, passes-sound}
 use Rattle.reasoning.proofs.ConsistencyJoins.{asked-begins}
 use Rattle.reasoning.proofs.HandedRows.{Begins}
 use Rattle.reasoning.proofs.TableArrays.{arrays-parents}
@@ -88,3 +96,57 @@ module _ (w : Written) where
 pub ruleset verdict-laws = (witnessed-length, witnessed-refused, shown-length, shown-refused)
 
 pub ruleset reply-laws = (yes-length, yes-refused, no-length, no-refused)
+
+-- ---- a table that passed its test
+
+module _ (t : Rules) (word : t .required < 2 ^ 64) (parent : List ℕ) (h : Passed t parent) where
+  pub passed-sound : Sound parent (t .kind) (t .left) (t .right) (t .paths) (t .rules)
+  passed-sound = passes-sound t word (h .passes) parent (h .lent)
+
+  pub passed-parents : Parents parent (t .paths)
+  passed-parents = passed-sound .parents
+
+  module _ (depth table : List ℕ) (r : Reaches parent (t .kind) (t .left) (t .right) (t .paths) (t .rules) depth table) where
+    pub passed-known : Known parent (t .kind) (t .left) (t .right) (t .paths) (t .rules) depth table
+    passed-known = record { sound = passed-sound; reaches = r }
+
+    pub passed-table : LentTable t parent depth table
+    passed-table = record { passes = h .passes; lent = h .lent; known = passed-known }
+
+    module _ (clash : ℕ) (e : clash ≡ clashing (parentOf parent) (ruleList (t .kind) (t .left) (t .right) (t .rules)) (t .paths)) where
+      pub passed-decided : Decided parent (t .kind) (t .left) (t .right) (t .paths) (t .rules) depth table clash
+      passed-decided = record { known = passed-known; clashes = e }
+
+      module _ (asked : ℕ) (f : asked ≡ withPath (t .required) 0) (test : Bool)
+          (g : test ≡ consistentb (parentOf parent) (ruleList (t .kind) (t .left) (t .right) (t .rules)) (t .paths) asked) where
+        pub passed-witnessed : test ≡ true → Witnessed t parent depth table asked
+        passed-witnessed b = record { lent = passed-table; asked-is = f; agrees = sym g ∙ b }
+
+        pub passed-conflicting : test ≡ false → Conflicting t parent depth table clash asked
+        passed-conflicting b = record { lent = passed-table; clashes = e; asked-is = f; conflicts = sym g ∙ b }
+
+-- ---- evidence that was collected
+
+pub taken : (ns before after : List ℕ) (most n : ℕ) → Stored ns most before 0 after n → most ≤ length before → take n after ≡ ns
+taken ns before after most n s room =
+    let few : 0 + length ns ≤ length before = omega (arith, s .end, s .room) in
+    ap (take n) (s .numbers ∙ sets-eq ns before 0 few)
+    ∙ take-at ns (drop (0 + length ns) before) n (omega (arith, s .end))
+
+module _ (t : Rules) (word : t .required < 2 ^ 64) (parent depth table : List ℕ) (clash asked : ℕ) (h : Conflicting t parent depth table clash asked) where
+  pub conflict-decided : Decided parent (t .kind) (t .left) (t .right) (t .paths) (t .rules) depth table clash
+  conflict-decided = record { known = h .lent .known; clashes = h .clashes }
+
+  pub conflict-put : (numbers out : List ℕ) (n : ℕ)
+      → Stored (inconsistentNumbers (parentOf parent) (ruleList (t .kind) (t .left) (t .right) (t .rules)) (t .paths) asked) 199 (replicate 400 0) 0 numbers n
+      → (w : Written) (r : Verdict) (after : List ℕ) → Puts (put (bytesOfAll (wrapped (take n numbers))) out) w after
+      → r ≡ answerOf Verdict.Inconsistent Verdict.Refused w → DecidesConsistency t out r after
+  conflict-put numbers out n s w r after p g =
+      consistency-shows t out word (h .lent .passes) parent (h .lent .lent)
+      (subst (λ (a : ℕ). consistentb (parentOf parent) (ruleList (t .kind) (t .left) (t .right) (t .rules)) (t .paths) a ≡ false) (h .asked-is) (h .conflicts))
+      (take n numbers)
+      (taken _ (replicate 400 0) numbers 199 n s (omega arith)
+      ∙ ap (inconsistentNumbers (parentOf parent) (ruleList (t .kind) (t .left) (t .right) (t .rules)) (t .paths)) (h .asked-is))
+      w r after p g
+
+pub ruleset passed-laws = (passed-sound, passed-parents, passed-known, passed-decided, passed-witnessed, passed-conflicting)

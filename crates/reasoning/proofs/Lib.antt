@@ -1,6 +1,7 @@
 -- The laws of walks, of reachable sets, of the decisions, of evidence and of the documents handed back.
 pub mod Agreeing
 pub mod Answers
+pub mod Asking
 pub mod CallLaws
 pub mod Calling
 pub mod Choosing

@@ -1,0 +1,114 @@
+-- Questions: from a table that passed its test to what the call promises.
+use Prim.Native.Nat.{ℕ, _+_, _%_, _^_, _<_, _≤_}
+use mathlib.Core.Path.{_≡_, refl, sym, ap, subst, _∙_}
+use mathlib.Core.Bool.{Bool, true, false, _&&_}
+use mathlib.Core.List.{List}
+use native.Mathlib.Omega.{arith}
+use lib.Dec.{leb, ltb, eqb}
+use lib.ListN.{length, take, drop, replicate}
+use borrow.Author.Tests.{lt-ltb, le-ltb, le-leb, lt-leb, eq-eqb, ne-eqb}
+use Rattle.files.specs.declared.rules.Rules.{Rules}
+use Rattle.files.specs.declared.write.Written.{Written}
+use Rattle.files.specs.Number.{bytesOfAll}
+use Rattle.files.specs.Rules.{ValidTable}
+use Rattle.files.specs.Sets.{withPath}
+use Rattle.files.specs.Writing.{put, wrapped, Puts}
+use Rattle.files.proofs.TableTests.{passes-valid}
+use Rattle.documents.specs.Paths.{contextOf}
+use Rattle.reasoning.specs.declared.question.Reply.{Reply}
+use Rattle.reasoning.specs.Arrays.{parentOf, ruleList}
+use Rattle.reasoning.specs.Calls.{askable, answerOf, parentsOf, ruleListOf, AnswersQuestion}
+use Rattle.reasoning.specs.Decide.{clashing}
+use Rattle.reasoning.specs.Emit.{Writable}
+use Rattle.reasoning.specs.Evidence.{impliesb, yesb, evidenceNumbers}
+use Rattle.reasoning.specs.Handed.{handedNumbers, Start, startNo, startBoth, startImplication, startAbsence}
+use Rattle.reasoning.specs.Known.{Reaches}
+use Rattle.reasoning.specs.Layers.{Stored}
+use Rattle.reasoning.specs.Lent.{Passed, LentTable, PassedQuestion, Affirmed, Denied, Countered}
+use Rattle.reasoning.specs.Words.{Decided}
+use Rattle.reasoning.specs.Writer.{wordFor, startOf}
+use Rattle.reasoning.proofs.CallLaws.{ask-shows, ask-hands}
+use Rattle.reasoning.proofs.Calling.{taken, passed-table}
+use Rattle.reasoning.proofs.HandedQuestions.{begins-no}
+use Rattle.reasoning.proofs.HandedRows.{Begins}
+use Rattle.reasoning.proofs.QuestionJoins.{askable-asked}
+use Rattle.reasoning.proofs.TableArrays.{arrays-parents, arrays-rules}
+use Rattle.reasoning.proofs.ValidFits.{table-fits}
+use Rattle.reasoning.proofs.Writable.{table-words, writable}
+
+-- ---- whether a question can be asked
+
+module _ (t : Rules) (kind p q : ℕ) where
+  pub bars-low : kind < 1 → false ≡ askable t kind p q
+  unfolding askable
+  bars-low h = rw (lt-leb 1 kind h)
+
+  pub bars-high : 1 ≤ kind → 3 < kind → false ≡ askable t kind p q
+  unfolding askable
+  bars-high h k = rw (le-leb 1 kind h, lt-leb kind 3 k)
+
+  pub bars-first : 1 ≤ kind → kind ≤ 3 → t .paths ≤ p → false ≡ askable t kind p q
+  unfolding askable
+  bars-first h k l = rw (le-leb 1 kind h, le-leb kind 3 k, le-ltb p (t .paths) l)
+
+  pub asks-second : 1 ≤ kind → kind ≤ 3 → p < t .paths → ltb q (t .paths) ≡ askable t kind p q
+  unfolding askable
+  asks-second h k l = rw (le-leb 1 kind h, le-leb kind 3 k, lt-ltb p (t .paths) l)
+
+pub ruleset askable-laws = (bars-low, bars-high, bars-first, asks-second)
+
+-- ---- yes
+
+module _ (t : Rules) (word : t .required < 2 ^ 64) (parent depth table : List ℕ) (clash kind p q : ℕ) (h : Affirmed t parent depth table clash kind p q) where
+  pub yes-decided : Decided parent (t .kind) (t .left) (t .right) (t .paths) (t .rules) depth table clash
+  yes-decided = record { known = h .lent .known; clashes = h .clashes }
+
+  pub yes-first : p < t .paths
+  yes-first = askable-asked t kind p q (h .can) .first
+
+  pub yes-second : q < t .paths
+  yes-second = askable-asked t kind p q (h .can) .second
+
+  pub yes-low : 1 ≤ kind
+  yes-low = askable-asked t kind p q (h .can) .low
+
+  pub yes-high : kind ≤ 3
+  yes-high = askable-asked t kind p q (h .can) .high
+
+  pub yes-put : (numbers out : List ℕ) (n : ℕ)
+      → Stored (evidenceNumbers (parentOf parent) (ruleList (t .kind) (t .left) (t .right) (t .rules)) (t .paths) kind p q) 392 (replicate 400 0) 0 numbers n
+      → (w : Written) (r : Reply) (after : List ℕ) → Puts (put (bytesOfAll (wrapped (take n numbers))) out) w after
+      → r ≡ answerOf Reply.Yes Reply.Refused w → AnswersQuestion t kind p q out r after
+  yes-put numbers out n s w r after f g =
+      ask-shows t kind p q out word (h .lent .passes) (h .can) parent (h .lent .lent) (h .yes) (take n numbers)
+      (taken _ (replicate 400 0) numbers 392 n s (omega arith)) w r after f g
+
+-- ---- no
+
+module _ (t : Rules) (word : t .required < 2 ^ 64) (parent depth table : List ℕ) (kind p q goals top : ℕ) (h : Countered t parent depth table kind p q goals top) where
+  valid : ValidTable t
+  valid = passes-valid t word .0 (h .lent .passes)
+
+  begins : (list : List ℕ) × Begins (parentOf parent) (t .paths) list (startOf goals top)
+  begins =
+      let a = askable-asked t kind p q (h .can) in
+      let b = begins-no (table-fits t valid) kind p q (a .first) (a .second) in
+      (b .0,
+      subst (λ (s : Start). Begins (parentOf parent) (t .paths) (b .0) s) (sym (h .begins))
+      (subst (λ (f : ℕ → ℕ). Begins f (t .paths) (b .0) (startNo f (ruleList (t .kind) (t .left) (t .right) (t .rules)) (t .paths) kind p q))
+      (sym (arrays-parents t valid parent (h .lent .lent)))
+      (subst (λ (l : List _). Begins (parentsOf t) (t .paths) (b .0) (startNo (parentsOf t) l (t .paths) kind p q)) (sym (arrays-rules t)) (b .1))))
+
+  pub counter-writable : Writable parent depth table (t .paths) goals top
+  counter-writable =
+      writable parent (t .kind) (t .left) (t .right) (t .paths) (t .rules) depth table (h .lent .known) goals top (begins .1)
+
+  pub counter-put : (out : List ℕ) (w : Written) (r : Reply) (after : List ℕ)
+      → Puts (put (bytesOfAll (handedNumbers (parentOf parent) (t .paths) (wordFor depth table (t .paths)) (startOf goals top))) out) w after
+      → r ≡ answerOf Reply.No Reply.Refused w → AnswersQuestion t kind p q out r after
+  counter-put out w r after f g =
+      ask-hands t kind p q out word (h .lent .passes) (h .can) parent (h .lent .lent)
+      (table-words parent (t .kind) (t .left) (t .right) (t .paths) (t .rules) depth table (h .lent .known))
+      (h .denies) w r after
+      (subst (λ (s : Start). Puts (put (bytesOfAll (handedNumbers (parentOf parent) (t .paths) (wordFor depth table (t .paths)) s)) out) w after) (h .begins) f)
+      g
