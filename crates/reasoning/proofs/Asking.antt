@@ -112,3 +112,69 @@ module _ (t : Rules) (word : t .required < 2 ^ 64) (parent depth table : List �
       (h .denies) w r after
       (subst (λ (s : Start). Puts (put (bytesOfAll (handedNumbers (parentOf parent) (t .paths) (wordFor depth table (t .paths)) s)) out) w after) (h .begins) f)
       g
+
+module _ (t : Rules) (parent depth table : List ℕ) (clash kind p q : ℕ) (h : Denied t parent depth table clash kind p q) where
+  pub no-decided : Decided parent (t .kind) (t .left) (t .right) (t .paths) (t .rules) depth table clash
+  no-decided = record { known = h .lent .known; clashes = h .clashes }
+
+  pub no-first : p < t .paths
+  no-first = askable-asked t kind p q (h .can) .first
+
+  pub no-second : q < t .paths
+  no-second = askable-asked t kind p q (h .can) .second
+
+  countered : (goals top : ℕ) → startOf goals top ≡ startNo (parentOf parent) (ruleList (t .kind) (t .left) (t .right) (t .rules)) (t .paths) kind p q
+      → Countered t parent depth table kind p q goals top
+  countered goals top e = record { lent = h .lent; can = h .can; denies = h .denies; begins = e }
+
+  -- what the counter-document begins with, by the kind
+  pub no-implication : (goals : ℕ) → kind ≡ 1 → goals ≡ withPath 0 p → Countered t parent depth table kind p q goals p
+  unfolding startNo
+  no-implication goals e f = countered goals p (rw (startNo, eq-eqb kind 1 e) (ap (λ (g : ℕ). startOf g p) f))
+
+  pub no-absence : (one goals top : ℕ) → (kind ≡ 1 → ⊥) → kind ≡ 2 → one ≡ withPath 0 q → goals ≡ withPath one p → top ≡ contextOf (parentOf parent) p q
+      → Countered t parent depth table kind p q goals top
+  unfolding startNo
+  no-absence one goals top d e i f g =
+      countered goals top
+      (rw (startNo, ne-eqb kind 1 d, eq-eqb kind 2 e)
+      (λ j. startOf ((f ∙ ap (λ (w : ℕ). withPath w p) i) j) (g j)))
+
+  module _ (test : Bool) (is : test ≡ impliesb (parentOf parent) (ruleList (t .kind) (t .left) (t .right) (t .rules)) (t .paths) p q)
+      (d : kind ≡ 1 → ⊥) (e : kind ≡ 2 → ⊥) where
+    pub no-back : (goals : ℕ) → test ≡ true → goals ≡ withPath 0 q → Countered t parent depth table kind p q goals q
+    unfolding startNo startBoth
+    no-back goals b f =
+        countered goals q
+        (rw (startNo, ne-eqb kind 1 d, ne-eqb kind 2 e, startBoth, let z : impliesb (parentOf parent) (ruleList (t .kind) (t .left) (t .right) (t .rules)) (t .paths) p q ≡ true = sym is ∙ b in z)
+        (ap (λ (g : ℕ). startOf g q) f))
+
+    pub no-there : (goals : ℕ) → test ≡ false → goals ≡ withPath 0 p → Countered t parent depth table kind p q goals p
+    unfolding startNo startBoth
+    no-there goals b f =
+        countered goals p
+        (rw (startNo, ne-eqb kind 1 d, ne-eqb kind 2 e, startBoth, let z : impliesb (parentOf parent) (ruleList (t .kind) (t .left) (t .right) (t .rules)) (t .paths) p q ≡ false = sym is ∙ b in z)
+        (ap (λ (g : ℕ). startOf g p) f))
+
+-- ---- a question that can be asked, of a table that passed its test
+
+module _ (t : Rules) (word : t .required < 2 ^ 64) (parent : List ℕ) (kind p q : ℕ) (h : PassedQuestion t parent kind p q) (depth table : List ℕ)
+    (r : Reaches parent (t .kind) (t .left) (t .right) (t .paths) (t .rules) depth table) (clash : ℕ)
+    (e : clash ≡ clashing (parentOf parent) (ruleList (t .kind) (t .left) (t .right) (t .rules)) (t .paths)) (test : Bool)
+    (g : test ≡ yesb (parentOf parent) (ruleList (t .kind) (t .left) (t .right) (t .rules)) (t .paths) kind p q) where
+  pub asked-affirmed : test ≡ true → Affirmed t parent depth table clash kind p q
+  asked-affirmed b = record { lent = passed-table t word parent (h .passed) depth table r; clashes = e; can = h .can; yes = sym g ∙ b }
+
+  pub asked-denied : test ≡ false → Denied t parent depth table clash kind p q
+  asked-denied b = record { lent = passed-table t word parent (h .passed) depth table r; clashes = e; can = h .can; denies = sym g ∙ b }
+
+-- the kind of a question that can be asked fits a byte
+module _ (t : Rules) (kind p q : ℕ) (can : askable t kind p q ≡ true) where
+  byte : kind ≡ kind % 256
+  byte = omega (arith, askable-asked t kind p q can .high)
+
+  pub asked-byte : askable t (kind % 256) p q ≡ true
+  asked-byte = subst (λ (k : ℕ). askable t k p q ≡ true) byte can
+
+  pub answers-byte : (out : List ℕ) (r : Reply) (after : List ℕ) → AnswersQuestion t (kind % 256) p q out r after → AnswersQuestion t kind p q out r after
+  answers-byte out r after a = subst (λ (k : ℕ). AnswersQuestion t k p q out r after) (sym byte) a
