@@ -26,3 +26,5 @@ pub mod Filling
 pub mod WordJoins
 pub mod Choosing
 pub mod Seeking
+pub mod Collecting
+pub mod Answering

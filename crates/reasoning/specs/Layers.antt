@@ -2,14 +2,17 @@
 use Prim.Native.Nat.{ℕ, zero, suc, _+_, _≤_, _<_}
 use mathlib.Core.Path.{_≡_}
 use mathlib.Core.Bool.{Bool, true, false, _&&_}
-use mathlib.Core.List.{List, [], _∷_}
+use mathlib.Core.List.{List, [], _∷_, _++_}
 use lib.Dec.{eqb}
 use lib.ListN.{length, getD}
 use lib.Seq.{sets}
 use Rattle.files.specs.Table.{Rule}
 use Rattle.files.specs.Sets.{hasb}
 use Rattle.reasoning.specs.Reachable.{goesAlong, goesAgainst}
-use Rattle.reasoning.specs.Search.{Move, forward, seek}
+use Rattle.documents.specs.Paths.{contextOf}
+use Rattle.reasoning.specs.Search.{Move, forward, seek, writtenWalk}
+use Rattle.reasoning.specs.Decide.{ruleAt, pairRule, pairSide}
+use Rattle.reasoning.specs.Evidence.{walkNumbers, firstSide, secondSide, pairNumbers}
 use Rattle.reasoning.specs.Arrays.{parentOf, ruleList}
 
 -- 1 if the first test passes, 2 if only the second does, else 0
@@ -46,3 +49,27 @@ pub record Stored (ns : List ℕ) (most : ℕ) (before : List ℕ) (start : ℕ)
   pub end : r ≡ start + length ns
   pub room : r ≤ start + most
   pub numbers : after ≡ sets before start ns
+
+module _ (parent : ℕ → ℕ) (rules : List Rule) (count : ℕ) where
+  -- the walks that show p dead by y and rule number r
+  unfoldable pub clashNumbers : (p y r : ℕ) → List ℕ
+  clashNumbers p y r =
+      let ru = ruleAt rules r in
+      let a = contextOf parent (ru .left) (ru .right) in
+      walkNumbers (writtenWalk parent rules count 0 p y)
+      ++ (walkNumbers (writtenWalk parent rules count a y (ru .left)) ++ walkNumbers (writtenWalk parent rules count a y (ru .right)))
+
+  -- the walks that show x and y excluded by rule number r and its side
+  unfoldable pub endNumbers : (x y r side : ℕ) → List ℕ
+  endNumbers x y r side =
+      let ru = ruleAt rules r in
+      let a = contextOf parent (ru .left) (ru .right) in
+      walkNumbers (writtenWalk parent rules count a x (firstSide ru side))
+      ++ walkNumbers (writtenWalk parent rules count a y (secondSide ru side))
+
+  -- the evidence for the pair p, q by the least rule
+  unfoldable pub leastPairNumbers : (p q : ℕ) → List ℕ
+  leastPairNumbers p q =
+      let c = contextOf parent p q in
+      let r = pairRule parent rules count c p q in
+      pairNumbers parent rules count p q r (pairSide parent rules count c p q r)

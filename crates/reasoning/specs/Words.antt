@@ -7,7 +7,7 @@ use lib.Dec.{eqb}
 use Rattle.files.specs.Table.{Rule}
 use Rattle.files.specs.Sets.{hasb, withPath, union, common}
 use Rattle.documents.specs.Paths.{contextOf}
-use Rattle.reasoning.specs.Least.{someIn}
+use Rattle.reasoning.specs.Least.{passing, someIn}
 use Rattle.reasoning.specs.Decide.{clashing, pairb, reacher}
 use Rattle.reasoning.specs.Reachable.{reachb}
 use Rattle.reasoning.specs.Arrays.{parentOf, ruleList, Parents, Sound}
@@ -51,6 +51,10 @@ module _ (depth table : List ℕ) where
   clashAll parent count [] w = w
   clashAll parent count (ru ∷ rest) w = clashAll parent count rest (clashBy parent count ru w)
 
+  -- q is reachable from p inside their context
+  unfoldable pub directIn : (parent : List ℕ) (p q : ℕ) → Bool
+  directIn parent p q = hasb (lookup depth table (contextOf (parentOf parent) p q) p) q
+
   -- the paths of `clash` that are reachable from p inside the root
   unfoldable pub clashesIn : (clash p : ℕ) → ℕ
   clashesIn clash p = common (lookup depth table 0 p) clash
@@ -58,6 +62,10 @@ module _ (depth table : List ℕ) where
   -- a path of `clash` is reachable from p inside the root
   unfoldable pub deadIn : (clash p : ℕ) → Bool
   deadIn clash p = someIn (clashesIn clash p)
+
+  -- the dead paths that are asked for
+  unfoldable pub deadAskedIn : (clash count asked : ℕ) → ℕ
+  deadAskedIn clash count asked = common (passing (deadIn clash) count) asked
 
   -- a is a prefix of c, and inside a l is reachable from p and r from q
   unfoldable pub sidesIn : (a l r c p q : ℕ) → Bool
