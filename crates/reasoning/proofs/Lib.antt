@@ -1,10 +1,12 @@
 -- The laws of walks, of reachable sets, of the decisions, of evidence and of the documents handed back.
 pub mod Agreeing
+pub mod Answering
 pub mod Answers
 pub mod Asking
 pub mod CallLaws
 pub mod Calling
 pub mod Choosing
+pub mod Collecting
 pub mod Completeness
 pub mod ConsistencyJoins
 pub mod Cut

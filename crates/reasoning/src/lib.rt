@@ -1,5 +1,6 @@
 // Walks, dead paths, evidence, and the documents handed back.
 pub(crate) mod choose;
+pub(crate) mod collect;
 pub mod consistency;
 pub(crate) mod document;
 pub(crate) mod emit;
