@@ -1,22 +1,22 @@
 -- Questions: from a table that passed its test to what the call promises.
 use Prim.Native.Nat.{ℕ, _+_, _%_, _^_, _<_, _≤_}
 use mathlib.Core.Path.{_≡_, refl, sym, ap, subst, _∙_}
-use mathlib.Core.Bool.{Bool, true, false, _&&_}
+use mathlib.Core.Bool.{Bool, true, false, not, _&&_}
 use mathlib.Core.List.{List}
 use native.Mathlib.Omega.{arith}
 use lib.Dec.{leb, ltb, eqb}
 use lib.ListN.{length, take, drop, replicate}
-use borrow.Author.Tests.{lt-ltb, le-ltb, le-leb, lt-leb, eq-eqb, ne-eqb}
+use borrow.Author.Tests.{lt-ltb, le-ltb, le-leb, lt-leb, eq-eqb, ne-eqb, not-true, not-false}
 use Rattle.files.specs.declared.rules.Rules.{Rules}
 use Rattle.files.specs.declared.write.Written.{Written}
 use Rattle.files.specs.Number.{bytesOfAll}
-use Rattle.files.specs.Rules.{ValidTable}
+use Rattle.files.specs.Rules.{parentsIn, ValidTable}
 use Rattle.files.specs.Sets.{withPath}
-use Rattle.files.specs.Writing.{put, wrapped, Puts}
+use Rattle.files.specs.Writing.{tablePasses, put, wrapped, Puts}
 use Rattle.files.proofs.TableTests.{passes-valid}
-use Rattle.documents.specs.Paths.{contextOf}
+use Rattle.documents.specs.Paths.{Descending, contextOf}
 use Rattle.reasoning.specs.declared.question.Reply.{Reply}
-use Rattle.reasoning.specs.Arrays.{parentOf, ruleList}
+use Rattle.reasoning.specs.Arrays.{parentOf, ruleList, Sound}
 use Rattle.reasoning.specs.Calls.{askable, answerOf, parentsOf, ruleListOf, AnswersQuestion}
 use Rattle.reasoning.specs.Decide.{clashing}
 use Rattle.reasoning.specs.Emit.{Writable}
@@ -27,8 +27,8 @@ use Rattle.reasoning.specs.Layers.{Stored}
 use Rattle.reasoning.specs.Lent.{Passed, LentTable, PassedQuestion, Affirmed, Denied, Countered}
 use Rattle.reasoning.specs.Words.{Decided}
 use Rattle.reasoning.specs.Writer.{wordFor, startOf}
-use Rattle.reasoning.proofs.CallLaws.{ask-shows, ask-hands}
-use Rattle.reasoning.proofs.Calling.{taken, passed-table}
+use Rattle.reasoning.proofs.CallLaws.{ask-refuses, ask-bars, ask-shows, ask-hands}
+use Rattle.reasoning.proofs.Calling.{taken, passed-sound, passed-table, valid-passed}
 use Rattle.reasoning.proofs.HandedQuestions.{begins-no}
 use Rattle.reasoning.proofs.HandedRows.{Begins}
 use Rattle.reasoning.proofs.QuestionJoins.{askable-asked}
@@ -59,27 +59,19 @@ pub ruleset askable-laws = (bars-low, bars-high, bars-first, asks-second)
 
 -- ---- yes
 
-module _ (t : Rules) (word : t .required < 2 ^ 64) (parent depth table : List ℕ) (clash kind p q : ℕ) (h : Affirmed t parent depth table clash kind p q) where
-  pub yes-decided : Decided parent (t .kind) (t .left) (t .right) (t .paths) (t .rules) depth table clash
-  yes-decided = record { known = h .lent .known; clashes = h .clashes }
+module _ (t : Rules) (parent depth table : List ℕ) (clash kind p q : ℕ) (h : Affirmed t parent depth table clash kind p q) where
+  -- what collecting the evidence asks
+  pub yes-requires : Decided parent (t .kind) (t .left) (t .right) (t .paths) (t .rules) depth table clash × (p < t .paths) × (q < t .paths) × (1 ≤ kind) × (kind ≤ 3)
+      × (yesb (parentOf parent) (ruleList (t .kind) (t .left) (t .right) (t .rules)) (t .paths) kind p q ≡ true)
+  yes-requires =
+      let a = askable-asked t kind p q (h .can) in
+      (record { known = h .lent .known; clashes = h .clashes }, a .first, a .second, a .low, a .high, h .yes)
 
-  pub yes-first : p < t .paths
-  yes-first = askable-asked t kind p q (h .can) .first
-
-  pub yes-second : q < t .paths
-  yes-second = askable-asked t kind p q (h .can) .second
-
-  pub yes-low : 1 ≤ kind
-  yes-low = askable-asked t kind p q (h .can) .low
-
-  pub yes-high : kind ≤ 3
-  yes-high = askable-asked t kind p q (h .can) .high
-
-  pub yes-put : (numbers out : List ℕ) (n : ℕ)
+  pub yes-put : t .required < 2 ^ 64 → (numbers out : List ℕ) (n : ℕ)
       → Stored (evidenceNumbers (parentOf parent) (ruleList (t .kind) (t .left) (t .right) (t .rules)) (t .paths) kind p q) 392 (replicate 400 0) 0 numbers n
       → (w : Written) (r : Reply) (after : List ℕ) → Puts (put (bytesOfAll (wrapped (take n numbers))) out) w after
       → r ≡ answerOf Reply.Yes Reply.Refused w → AnswersQuestion t kind p q out r after
-  yes-put numbers out n s w r after f g =
+  yes-put word numbers out n s w r after f g =
       ask-shows t kind p q out word (h .lent .passes) (h .can) parent (h .lent .lent) (h .yes) (take n numbers)
       (taken _ (replicate 400 0) numbers 392 n s (omega arith)) w r after f g
 
@@ -114,14 +106,18 @@ module _ (t : Rules) (word : t .required < 2 ^ 64) (parent depth table : List �
       g
 
 module _ (t : Rules) (parent depth table : List ℕ) (clash kind p q : ℕ) (h : Denied t parent depth table clash kind p q) where
-  pub no-decided : Decided parent (t .kind) (t .left) (t .right) (t .paths) (t .rules) depth table clash
-  no-decided = record { known = h .lent .known; clashes = h .clashes }
+  -- what the test of the first direction asks
+  pub no-requires : Decided parent (t .kind) (t .left) (t .right) (t .paths) (t .rules) depth table clash × (p < t .paths) × (q < t .paths)
+  no-requires =
+      let a = askable-asked t kind p q (h .can) in
+      (record { known = h .lent .known; clashes = h .clashes }, a .first, a .second)
 
-  pub no-first : p < t .paths
-  no-first = askable-asked t kind p q (h .can) .first
-
-  pub no-second : q < t .paths
-  no-second = askable-asked t kind p q (h .can) .second
+  -- what the context asks
+  pub no-context : Descending (parentOf parent) × (p < 64) × (q < 64)
+  no-context =
+      let a = askable-asked t kind p q (h .can) in
+      let s = h .lent .known .sound .parents in
+      (s .descending, omega (arith, a .first, s .few), omega (arith, a .second, s .few))
 
   countered : (goals top : ℕ) → startOf goals top ≡ startNo (parentOf parent) (ruleList (t .kind) (t .left) (t .right) (t .rules)) (t .paths) kind p q
       → Countered t parent depth table kind p q goals top
@@ -158,6 +154,15 @@ module _ (t : Rules) (parent depth table : List ℕ) (clash kind p q : ℕ) (h :
 
 -- ---- a question that can be asked, of a table that passed its test
 
+-- what the answer asks
+pub asked-requires : (t : Rules) → t .required < 2 ^ 64 → (parent : List ℕ) (kind p q : ℕ) → PassedQuestion t parent kind p q → (depth table : List ℕ)
+    → Reaches parent (t .kind) (t .left) (t .right) (t .paths) (t .rules) depth table → (clash : ℕ)
+    → clash ≡ clashing (parentOf parent) (ruleList (t .kind) (t .left) (t .right) (t .rules)) (t .paths)
+    → Decided parent (t .kind) (t .left) (t .right) (t .paths) (t .rules) depth table clash × (p < t .paths) × (q < t .paths)
+asked-requires t word parent kind p q h depth table r clash e =
+    let a = askable-asked t kind p q (h .can) in
+    (record { known = passed-table t word parent (h .passed) depth table r .known; clashes = e }, a .first, a .second)
+
 module _ (t : Rules) (word : t .required < 2 ^ 64) (parent : List ℕ) (kind p q : ℕ) (h : PassedQuestion t parent kind p q) (depth table : List ℕ)
     (r : Reaches parent (t .kind) (t .left) (t .right) (t .paths) (t .rules) depth table) (clash : ℕ)
     (e : clash ≡ clashing (parentOf parent) (ruleList (t .kind) (t .left) (t .right) (t .rules)) (t .paths)) (test : Bool)
@@ -178,3 +183,16 @@ module _ (t : Rules) (kind p q : ℕ) (can : askable t kind p q ≡ true) where
 
   pub answers-byte : (out : List ℕ) (r : Reply) (after : List ℕ) → AnswersQuestion t (kind % 256) p q out r after → AnswersQuestion t kind p q out r after
   answers-byte out r after a = subst (λ (k : ℕ). AnswersQuestion t k p q out r after) (sym byte) a
+
+pub invalid-barred : (t : Rules) (kind p q : ℕ) (out : List ℕ) → t .required < 2 ^ 64 → (b : Bool) → b ≡ tablePasses t → not b ≡ true
+    → AnswersQuestion t kind p q out (Reply.Refused 12 0) out
+invalid-barred t kind p q out word b e f = ask-refuses t kind p q out word (sym e ∙ not-true b f)
+
+pub unasked-barred : (t : Rules) (kind p q : ℕ) (out : List ℕ) → t .required < 2 ^ 64 → (b : Bool) → b ≡ tablePasses t → not b ≡ false
+    → (a : Bool) → a ≡ askable t kind p q → not a ≡ true → AnswersQuestion t kind p q out (Reply.Refused 13 0) out
+unasked-barred t kind p q out word b e f a g h = ask-bars t kind p q out word (sym e ∙ not-false b f) (sym g ∙ not-true a h)
+
+pub question-passed : (t : Rules) (parent : List ℕ) (kind p q : ℕ) (b : Bool) → b ≡ tablePasses t → not b ≡ false
+    → (a : Bool) → a ≡ askable t kind p q → not a ≡ false → parent ≡ parentsIn (t .parent) (t .paths) → PassedQuestion t parent (kind % 256) p q
+question-passed t parent kind p q b e f a g h i =
+    record { passed = valid-passed t parent b e f i; can = asked-byte t kind p q (sym g ∙ not-false a h) }

@@ -1,17 +1,18 @@
 -- The calls: from a table that passed its test to what they promise.
 use Prim.Native.Nat.{ℕ, _+_, _^_, _<_, _≤_}
 use mathlib.Core.Path.{_≡_, refl, sym, ap, subst, _∙_}
-use mathlib.Core.Bool.{Bool, true, false}
+use mathlib.Core.Bool.{Bool, true, false, not}
+use borrow.Author.Tests.{not-true, not-false}
 use mathlib.Core.List.{List, _∷_}
 use native.Mathlib.Omega.{arith}
 use lib.ListN.{length, take, drop, replicate}
-use lib.Seq.{sets-eq, take-at}
+use lib.Seq.{length-sets, sets-eq, take-at}
 use Rattle.files.specs.declared.rules.Rules.{Rules}
 use Rattle.files.specs.declared.write.Written.{Written}
 use Rattle.files.specs.declared.write.Written.the-variants.{Length, Refused}
 use Rattle.files.specs.Number.{bytesOfAll}
-use Rattle.files.specs.Rules.{rulesOf, ValidTable}
-use Rattle.files.specs.Writing.{put, wrapped, Puts}
+use Rattle.files.specs.Rules.{rulesOf, parentsIn, ValidTable}
+use Rattle.files.specs.Writing.{tablePasses, put, wrapped, Puts}
 use Rattle.files.specs.Sets.{withPath}
 use Rattle.files.proofs.TableTests.{passes-valid}
 use Rattle.reasoning.specs.declared.consistency.Verdict.{Verdict}
@@ -27,7 +28,7 @@ use Rattle.reasoning.specs.Words.{Decided}
 use Rattle.reasoning.specs.Handed.{handedNumbers, startConsistency}
 use Rattle.reasoning.specs.Lent.{Passed, LentTable, Witnessed, Conflicting}
 use Rattle.reasoning.specs.Writer.{wordFor, startOf}
-use Rattle.reasoning.proofs.CallLaws.{consistency-hands, consistency-shows, passes-sound}
+use Rattle.reasoning.proofs.CallLaws.{consistency-refuses, consistency-hands, consistency-shows, passes-sound}
 use Rattle.reasoning.proofs.ConsistencyJoins.{asked-begins}
 use Rattle.reasoning.proofs.HandedRows.{Begins}
 use Rattle.reasoning.proofs.TableArrays.{arrays-parents}
@@ -150,3 +151,19 @@ module _ (t : Rules) (word : t .required < 2 ^ 64) (parent depth table : List �
       w r after p g
 
 pub ruleset passed-laws = (passed-sound, passed-parents, passed-known, passed-decided, passed-witnessed, passed-conflicting)
+
+-- as many numbers are lent as were collected
+pub lent-some : (ns before after : List ℕ) (most n : ℕ) → Stored ns most before 0 after n → most ≤ length before → n ≡ length (take n after)
+lent-some ns before after most n s room = s .end ∙ omega arith ∙ sym (ap length (taken ns before after most n s room))
+
+-- ---- the test of the table
+
+pub invalid-refused : (t : Rules) (out : List ℕ) → t .required < 2 ^ 64 → (b : Bool) → b ≡ tablePasses t → not b ≡ true → DecidesConsistency t out (Verdict.Refused 12 0) out
+invalid-refused t out word b e f = consistency-refuses t out word (sym e ∙ not-true b f)
+
+pub valid-passed : (t : Rules) (parent : List ℕ) (b : Bool) → b ≡ tablePasses t → not b ≡ false → parent ≡ parentsIn (t .parent) (t .paths) → Passed t parent
+valid-passed t parent b e f g = record { passes = sym e ∙ not-false b f; lent = g }
+
+pub lent-within : (ns before after : List ℕ) (most n : ℕ) → Stored ns most before 0 after n → most ≤ length before → n ≤ length after
+lent-within ns before after most n s room =
+    omega (arith, s .room, ap length (s .numbers), length-sets before 0 ns)

@@ -3,10 +3,19 @@ ghost use Prim.Native.Nat.{_≤_};
 ghost use mathlib.Core.Path.{_≡_};
 ghost use mathlib.Core.Bool.{true, false};
 ghost use Rattle.reasoning.specs.Calls.{answerOf, askedOf, DecidesConsistency};
-ghost use Rattle.reasoning.specs.Lent.{LentTable, Witnessed};
+ghost use Rattle.reasoning.specs.Lent.{Passed, Witnessed, Conflicting};
+use crate::choose::clashing;
+use crate::collect::consistent;
+use crate::collect::put_inconsistent;
 use crate::document::write_document;
+use crate::reach::depths;
+use crate::reach::reach_table;
 use files::rules::Rules;
+use files::rules::parents;
+use files::sets;
+use files::valid::valid_table;
 use files::write::Written;
+use files::write::put_numbers;
 
 // Consistent with a document of so many bytes, inconsistent with evidence of so many bytes, or the refusal's number and place.
 pub enum Verdict {
@@ -48,4 +57,57 @@ fn put_witness(
     ensures { λ r. ⌜ DecidesConsistency rules (now (out .entry)) r (now (out .exit)) ⌝ }
 {
     witnessed(write_document(parent, depth, table, rules.paths, asked, 0, out))
+}
+
+// An inconsistent set: its evidence is put into the buffer.
+fn put_conflict(
+    rules: Rules,
+    parent: &[u8; 64],
+    depth: &[u8; 64],
+    table: &[u64; 512],
+    clash: u64,
+    asked: u64,
+    out: &mut [u8],
+) -> Verdict
+    requires { ⌜ Conflicting rules (now parent) (now depth) (now table) clash asked ⌝ }
+    ensures { λ r. ⌜ DecidesConsistency rules (now (out .entry)) r (now (out .exit)) ⌝ }
+{
+    let kind = rules.kind;
+    let left = rules.left;
+    let right = rules.right;
+    let mut numbers = [0u32; 400];
+    let n = put_inconsistent(parent, &kind, &left, &right, rules.paths, rules.rules, depth, table, clash, asked, &mut numbers);
+    shown(put_numbers(&numbers[..n], out))
+}
+
+// The verdict on a table that passed its test, with its parents.
+fn decide(rules: Rules, parent: &[u8; 64], out: &mut [u8]) -> Verdict
+    requires { ⌜ Passed rules (now parent) ⌝ }
+    ensures { λ r. ⌜ DecidesConsistency rules (now (out .entry)) r (now (out .exit)) ⌝ }
+{
+    let kind = rules.kind;
+    let left = rules.left;
+    let right = rules.right;
+    let count = rules.paths;
+    let many = rules.rules;
+    let depth = depths(parent, count);
+    let table = reach_table(parent, &kind, &left, &right, count, many, &depth);
+    let clash = clashing(parent, &kind, &left, &right, count, many, &depth, &table);
+    let asked = sets::with(rules.required, 0);
+    if consistent(parent, &kind, &left, &right, count, many, &depth, &table, clash, asked) {
+        return put_witness(rules, parent, &depth, &table, asked, out);
+    }
+    put_conflict(rules, parent, &depth, &table, clash, asked, out)
+}
+
+// Whether the rules are consistent with the required paths: a witness or the evidence is put into the buffer.
+pub fn consistency(rules: Rules, out: &mut [u8]) -> Verdict
+    ensures { λ r. ⌜ DecidesConsistency rules (now (out .entry)) r (now (out .exit)) ⌝ }
+{
+    if !valid_table(rules) {
+        return Verdict::Refused(12, 0);
+    }
+    let given = rules.parent;
+    let parent = parents(&given, rules.paths);
+    decide(rules, &parent, out)
 }

@@ -1,0 +1,63 @@
+use borrow.Author.Needs.{needs}
+use Rattle.reasoning.proofs.consistency.decide.Statement.{statement}
+use Rattle.reasoning.proofs.consistency.decide.Tie as tie
+use Rattle.reasoning.proofs.consistency.decide.Reads as reads
+use Rattle.reasoning.proofs.consistency.decide.Lts as lts
+use Rattle.files.proofs.sets.with.Reads as with-reads
+use Rattle.reasoning.proofs.choose.clashing.Reads as clashing-reads
+use Rattle.reasoning.proofs.collect.consistent.Reads as consistent-reads
+use Rattle.reasoning.proofs.consistency.put_conflict.Reads as put-conflict-reads
+use Rattle.reasoning.proofs.consistency.put_witness.Reads as put-witness-reads
+use Rattle.reasoning.proofs.reach.depths.Reads as depths-reads
+use Rattle.reasoning.proofs.reach.reach_table.Reads as reach-table-reads
+use native.Mathlib.Omega.{arith}
+use Rattle.reasoning.proofs.Calling.{passed-sound, passed-parents, passed-known, passed-decided, passed-witnessed, passed-conflicting}
+
+depths-requires : tie.Need-depths-requires
+depths-requires c κs = passed-parents _ (omega (arith, c .before .before .before .before .good)) _ (c .before .before .before .before .pre)
+
+reach-table-requires : tie.Need-reach-table-requires
+reach-table-requires c κs = (passed-sound _ (omega (arith, c .before .before .before .before .before .before .before .before .before .good)) _ (c .before .before .before .before .before .before .before .before .before .pre), c .before .before .before .before .depths .ensures)
+
+clashing-requires : tie.Need-clashing-requires
+clashing-requires c κs = passed-known _ (omega (arith, c .before .before .before .before .before .before .before .before .before .before .before .before .before .before .before .good)) _ (c .before .before .before .before .before .before .before .before .before .before .before .before .before .before .before .pre) _ _ (c .before .before .before .before .before .reach-table .ensures)
+
+with-requires : tie.Need-with-requires
+with-requires c κs = search needs
+
+consistent-requires : tie.Need-consistent-requires
+consistent-requires c κs = passed-decided _ (omega (arith, c .before .before .before .before .before .before .before .before .before .before .before .before .before .before .before .before .before .before .before .before .before .before .good)) _ (c .before .before .before .before .before .before .before .before .before .before .before .before .before .before .before .before .before .before .before .before .before .before .pre) _ _ (c .before .before .before .before .before .before .before .before .before .before .before .before .reach-table .ensures) _ (c .before .before .before .before .before .before .clashing .ensures)
+
+put-witness-requires : tie.Need-put-witness-requires
+put-witness-requires c κs = passed-witnessed _ (omega (arith, c .before .before .before .before .before .before .before .before .before .before .before .before .before .before .before .before .before .before .before .before .before .before .before .before .before .before .before .good)) _ (c .before .before .before .before .before .before .before .before .before .before .before .before .before .before .before .before .before .before .before .before .before .before .before .before .before .before .before .pre) _ _ (c .before .before .before .before .before .before .before .before .before .before .before .before .before .before .before .before .before .reach-table .ensures) _ (c .before .before .before .before .before .before .before .before .before .before .before .clashing .ensures) _ (c .before .before .before .before .before .before .before .before .before .before .with .ensures) _ (c .before .before .before .before .consistent .ensures) (c .before .before .before .if1 .taken)
+
+same-length : tie.Need-same-length
+same-length c = search needs
+
+returns : tie.Need-returns
+returns c = search needs
+
+put-conflict-requires : tie.Need-put-conflict-requires
+put-conflict-requires c κs = passed-conflicting _ (omega (arith, c .before .before .before .before .before .before .before .before .before .before .before .before .before .before .before .before .before .before .before .before .before .before .before .before .before .before .before .good)) _ (c .before .before .before .before .before .before .before .before .before .before .before .before .before .before .before .before .before .before .before .before .before .before .before .before .before .before .before .pre) _ _ (c .before .before .before .before .before .before .before .before .before .before .before .before .before .before .before .before .before .reach-table .ensures) _ (c .before .before .before .before .before .before .before .before .before .before .before .clashing .ensures) _ (c .before .before .before .before .before .before .before .before .before .before .with .ensures) _ (c .before .before .before .before .consistent .ensures) (c .before .before .before .if1 .left)
+
+same-length-2 : tie.Need-same-length-2
+same-length-2 c = search needs
+
+returns-2 : tie.Need-returns-2
+returns-2 c = search needs
+
+pub decide-spec : {M : Type 1} → statement M
+decide-spec =
+    tie.close
+    (tie.spec
+    depths-requires
+    reach-table-requires
+    clashing-requires
+    with-requires
+    consistent-requires
+    put-witness-requires
+    same-length
+    returns
+    put-conflict-requires
+    same-length-2
+    returns-2)

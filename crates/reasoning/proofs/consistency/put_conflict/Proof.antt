@@ -1,0 +1,43 @@
+use borrow.Author.Needs.{needs}
+use Rattle.reasoning.proofs.consistency.put_conflict.Statement.{statement}
+use Rattle.reasoning.proofs.consistency.put_conflict.Tie as tie
+use Rattle.reasoning.proofs.consistency.put_conflict.Reads as reads
+use Rattle.reasoning.proofs.consistency.put_conflict.Lts as lts
+use Rattle.files.proofs.write.put_numbers.Reads as put-numbers-reads
+use Rattle.reasoning.proofs.collect.put_inconsistent.Reads as put-inconsistent-reads
+use Rattle.reasoning.proofs.consistency.shown.Reads as shown-reads
+use native.Mathlib.Omega.{arith}
+use Rattle.reasoning.proofs.Calling.{conflict-put, lent-some, lent-within}
+
+put-inconsistent-requires : tie.Need-put-inconsistent-requires
+put-inconsistent-requires c κs = search needs
+
+array-share-prefix-numbers : tie.Need-array-share-prefix-numbers
+array-share-prefix-numbers c = lent-within _ _ _ _ _ (c .put-inconsistent .ensures) (omega arith)
+
+slice-aggregate-put-numbers : tie.Need-slice-aggregate-put-numbers
+slice-aggregate-put-numbers c = lent-some _ _ _ _ _ (c .before .put-inconsistent .ensures) (omega arith)
+
+put-numbers-requires : tie.Need-put-numbers-requires
+put-numbers-requires c κs = search needs
+
+shown-requires : tie.Need-shown-requires
+shown-requires c κs = search needs
+
+same-length : tie.Need-same-length
+same-length c = search needs
+
+returns : tie.Need-returns
+returns c = conflict-put _ (omega (arith, c .before .before .before .before .before .before .before .before .before .before .before .before .before .before .before .good)) _ _ _ _ _ (c .before .before .before .before .before .before .before .before .before .before .before .before .before .before .before .pre) _ _ _ (c .before .before .before .before .before .before .put-inconsistent .ensures) _ _ _ (c .before .before .before .put-numbers .ensures) (c .shown .ensures)
+
+pub put-conflict-spec : {M : Type 1} → statement M
+put-conflict-spec =
+    tie.close
+    (tie.spec
+    put-inconsistent-requires
+    array-share-prefix-numbers
+    slice-aggregate-put-numbers
+    put-numbers-requires
+    shown-requires
+    same-length
+    returns)
