@@ -1,0 +1,24 @@
+use borrow.Author.Needs.{needs}
+use Rattle.verdict.proofs.write_start.Statement.{statement}
+use Rattle.verdict.proofs.write_start.Tie as tie
+use Rattle.verdict.proofs.write_start.Reads as reads
+use Rattle.verdict.proofs.write_start.Lts as lts
+use Rattle.io.proofs.write_all.Reads as write-all-reads
+use native.Mathlib.Omega.{arith}
+use lib.ListN.{length-take}
+
+slice-aggregate-write-all : tie.Need-slice-aggregate-write-all
+slice-aggregate-write-all c = simp length-take (omega arith)
+
+write-all-requires : tie.Need-write-all-requires
+write-all-requires c κs = search needs
+
+returns : tie.Need-returns
+returns c = search needs
+
+returns-2 : tie.Need-returns-2
+returns-2 c = search needs
+
+pub write-start-spec : {M : Type 1} → statement M
+write-start-spec =
+    tie.close (tie.spec slice-aggregate-write-all write-all-requires returns returns-2)
