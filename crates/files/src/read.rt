@@ -9,7 +9,6 @@ ghost use Rattle.files.specs.Table.{Path, RuleSet};
 ghost use Rattle.files.specs.RuleFile.{between, sameChild, repeats, parentTest, pathLabel, onePath, morePaths, depths, moreRequired, ruleRight, ruleLeft, oneRule, moreRules, rulesToEnd, afterRequired, requiredOn, afterPaths, afterRoot, afterCount};
 ghost use Rattle.files.specs.Rules.{pathsFrom, padded, addAll, tableOf};
 ghost use Rattle.files.specs.Reading.{passed, tested, pathAnswer, pathsAnswer, requiredAnswer, ruleAnswer, ruleListAnswer, PathsIn, readingOf, ReadRules};
-
 use crate::number::Number;
 use crate::number::read_number;
 use crate::number::wide;

@@ -96,11 +96,11 @@ last-is : (pre : List ℕ) (x : ℕ) (ns : List ℕ) (at : ℕ) → at ≡ lengt
 unfolding isEnd bytesOfAll
 last-is pre x [] at e =
     let all : length (bytesOfAll (pre ++ (x ∷ []))) ≡ length (bytesOfAll pre) + length (bytesOf x) =
-      ap length (bytes-append pre (x ∷ [])) ∙ length-append (bytesOfAll pre) (bytesOf x ++ []) ∙ ap (λ (l : List ℕ). length (bytesOfAll pre) + length l) (append-nil (bytesOf x)) in
+    ap length (bytes-append pre (x ∷ [])) ∙ length-append (bytesOfAll pre) (bytesOf x ++ []) ∙ ap (λ (l : List ℕ). length (bytesOfAll pre) + length l) (append-nil (bytesOf x)) in
     le-leb (length (bytesOfAll (pre ++ (x ∷ [])))) (at + length (bytesOf x)) (omega arith)
 last-is pre x (y ∷ ns) at e =
     let all : length (bytesOfAll (pre ++ (x ∷ y ∷ ns))) ≡ length (bytesOfAll pre) + length (bytesOf x ++ (bytesOf y ++ bytesOfAll ns)) =
-      ap length (bytes-append pre (x ∷ y ∷ ns)) ∙ length-append (bytesOfAll pre) (bytesOf x ++ (bytesOf y ++ bytesOfAll ns)) in
+    ap length (bytes-append pre (x ∷ y ∷ ns)) ∙ length-append (bytesOfAll pre) (bytesOf x ++ (bytesOf y ++ bytesOfAll ns)) in
     lt-leb (length (bytesOfAll (pre ++ (x ∷ y ∷ ns)))) (at + length (bytesOf x))
     (omega (arith, length-append (bytesOf x) (bytesOf y ++ bytesOfAll ns), length-append (bytesOf y) (bytesOfAll ns), bytes-some y))
 
@@ -115,20 +115,20 @@ unfolding laysMore textAt afterAt textFrom
 more-split pre x ns p size l e f h =
     let t : List ℕ = pieceText (p .stage) (p .part) (p .left) (isEnd ns) x in
     let last : leb (length (bytesOfAll (pre ++ (x ∷ ns)))) (p .at + size) ≡ isEnd ns =
-      ap (λ (k : ℕ). leb (length (bytesOfAll (pre ++ (x ∷ ns)))) (p .at + k)) f ∙ last-is pre x ns (p .at) e in
+    ap (λ (k : ℕ). leb (length (bytesOfAll (pre ++ (x ∷ ns)))) (p .at + k)) f ∙ last-is pre x ns (p .at) e in
     let same = same-after (p .stage) (p .at + size) (p .part) (p .left) x in
-    record
-    { done = x ∷ h .done
-    ; left = h .left
-    ; all = ap (λ (r : List ℕ). x ∷ r) (h .all)
-    ; text =
-      ap (λ (b : Bool). (pieceText (p .stage) (p .part) (p .left) b x ++ l .text) ++ textFrom (l .place) (h .left)) last
-      ∙ append-assoc t (l .text) (textFrom (l .place) (h .left))
-      ∙ ap (λ (r : List ℕ). t ++ r)
-        (h .text
-        ∙ text-same (placeAfter (p .stage) (p .at + size) (p .part) (p .left) x) (placeAfter (p .stage) 0 (p .part) (p .left) x) ns
-          (same .stage) (same .part) (same .left))
-    ; at = h .at ∙ ap (λ (r : List ℕ). length (bytesOfAll r)) (append-assoc pre (x ∷ []) (h .done))
+    record {
+      done = x ∷ h .done;
+      left = h .left;
+      all = ap (λ (r : List ℕ). x ∷ r) (h .all);
+      text =
+          ap (λ (b : Bool). (pieceText (p .stage) (p .part) (p .left) b x ++ l .text) ++ textFrom (l .place) (h .left)) last
+          ∙ append-assoc t (l .text) (textFrom (l .place) (h .left))
+          ∙ ap (λ (r : List ℕ). t ++ r)
+          (h .text
+          ∙ text-same (placeAfter (p .stage) (p .at + size) (p .part) (p .left) x) (placeAfter (p .stage) 0 (p .part) (p .left) x) ns
+          (same .stage) (same .part) (same .left));
+      at = h .at ∙ ap (λ (r : List ℕ). length (bytesOfAll r)) (append-assoc pre (x ∷ []) (h .done));
     }
 
 -- a call lays out some numbers from its place on, and the rest are left to the next
@@ -140,9 +140,10 @@ lays-split (suc most) pre ns room p small e = by (leb 48 room) refl ns small (λ
   where
     IH : Type 0
     IH = (pre ns : List ℕ) (room : ℕ) (p : Place) → ((n : ℕ) → List·Memᴰ n ns → n < limit) → p .at ≡ length (bytesOfAll pre)
-      → Split pre ns p (lays most (bytesOfAll (pre ++ ns)) room p)
+        → Split pre ns p (lays most (bytesOfAll (pre ++ ns)) room p)
+
     by : (t : Bool) → leb 48 room ≡ t → (ns : List ℕ) → ((n : ℕ) → List·Memᴰ n ns → n < limit) → IH
-      → Split pre ns p (lays (suc most) (bytesOfAll (pre ++ ns)) room p)
+        → Split pre ns p (lays (suc most) (bytesOfAll (pre ++ ns)) room p)
     by false f ns small ih = rw f (none-split pre ns p e)
     by true f [] small ih =
         let none : numberIn (drop (p .at) (bytesOfAll (pre ++ []))) ≡ Refused 1 = ap numberIn (from-place pre [] (p .at) e) ∙ in-cut before in
@@ -150,10 +151,10 @@ lays-split (suc most) pre ns room p small e = by (leb 48 room) refl ns small (λ
     by true f (x ∷ rest) small ih =
         let first : x < limit = small x (List·Memᴰ·head refl) in
         let is : numberIn (drop (p .at) (bytesOfAll (pre ++ (x ∷ rest)))) ≡ Is x (length (bytesOf x)) =
-          ap numberIn (from-place pre (x ∷ rest) (p .at) e) ∙ read-back x (bytesOfAll rest) first in
+        ap numberIn (from-place pre (x ∷ rest) (p .at) e) ∙ read-back x (bytesOfAll rest) first in
         let next : p .at + length (bytesOf x) ≡ length (bytesOfAll (pre ++ (x ∷ []))) =
-          sym (ap length (bytes-append pre (x ∷ [])) ∙ length-append (bytesOfAll pre) (bytesOf x ++ [])
-          ∙ ap (λ (l : List ℕ). length (bytesOfAll pre) + length l) (append-nil (bytesOf x)) ∙ ap (λ (k : ℕ). k + length (bytesOf x)) (sym e)) in
+        sym (ap length (bytes-append pre (x ∷ [])) ∙ length-append (bytesOfAll pre) (bytesOf x ++ [])
+        ∙ ap (λ (l : List ℕ). length (bytesOfAll pre) + length l) (append-nil (bytesOf x)) ∙ ap (λ (k : ℕ). k + length (bytesOf x)) (sym e)) in
         rw (f, is)
         (more-split pre x rest p (length (bytesOf x)) _ e refl
         (subst (λ (s : List ℕ). Split (pre ++ (x ∷ [])) rest (afterAt p x (length (bytesOf x))) (lays most s (room - length (textAt (bytesOfAll (pre ++ (x ∷ rest))) p x (length (bytesOf x)))) (afterAt p x (length (bytesOf x)))))

@@ -51,16 +51,16 @@ module _ (n : ℕ) (text : List ℕ) (from left : ℕ) (inv : DigitsSoFar n text
       let some : 0 < from = from-some h in
       let e : from ≡ suc (from - 1) = omega arith in
       let b : left < 10 ^ (from - 1) * 10 = rw (← pow-suc 10 (from - 1), ← e) (inv .bound) in
-      record
-      { slots = length-set text (from - 1) (48 + left % 10) ∙ inv .slots
-      ; room = omega (arith, inv .room)
-      ; bound = div-lt-iff-lt-mul (let z : 0 < 10 = omega arith in z) .1 b
-      ; rest =
-        ap (digitsBefore (from - 1) (left / 10)) (store-front text (from - 1) (48 + left % 10) (omega (arith, inv .slots, inv .room)))
-        ∙ ap (λ (k : ℕ). digitsBefore (from - 1) (left / 10) ((48 + left % 10) ∷ drop k text)) (sym e)
-        ∙ sym (before-one (from - 1) left (drop from text) h)
-        ∙ ap (λ (k : ℕ). digitsBefore k left (drop from text)) (sym e)
-        ∙ inv .rest
+      record {
+        slots = length-set text (from - 1) (48 + left % 10) ∙ inv .slots;
+        room = omega (arith, inv .room);
+        bound = div-lt-iff-lt-mul (let z : 0 < 10 = omega arith in z) .1 b;
+        rest =
+            ap (digitsBefore (from - 1) (left / 10)) (store-front text (from - 1) (48 + left % 10) (omega (arith, inv .slots, inv .room)))
+            ∙ ap (λ (k : ℕ). digitsBefore (from - 1) (left / 10) ((48 + left % 10) ∷ drop k text)) (sym e)
+            ∙ sym (before-one (from - 1) left (drop from text) h)
+            ∙ ap (λ (k : ℕ). digitsBefore k left (drop from text)) (sym e)
+            ∙ inv .rest;
       }
 
   pub digits-end : left ≤ 0 → drop from text ≡ digits n

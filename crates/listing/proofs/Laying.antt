@@ -112,15 +112,15 @@ more-more a b l = λ i. record { text = sym (append-assoc a b (l .text)) i; plac
 pub lay-start : (s : List ℕ) (p : Place) (out : List ℕ) → LaySoFar s p out out p 0
 unfolding laysMore
 lay-start s p out =
-    record
-    { most = length s
-    ; text = []
-    ; used = refl
-    ; room = refl
-    ; fits = omega arith
-    ; enough = omega arith
-    ; bytes = refl
-    ; rest = let z : length out - 0 ≡ length out = omega arith in ap (λ (k : ℕ). lays (length s) s k p) z
+    record {
+      most = length s;
+      text = [];
+      used = refl;
+      room = refl;
+      fits = omega arith;
+      enough = omega arith;
+      bytes = refl;
+      rest = let z : length out - 0 ≡ length out = omega arith in ap (λ (k : ℕ). lays (length s) s k p) z;
     }
 
 module _ (s : List ℕ) (p₀ : Place) (out₀ out : List ℕ) (p : Place) (n : ℕ) (inv : LaySoFar s p₀ out₀ out p n) where
@@ -133,11 +133,11 @@ module _ (s : List ℕ) (p₀ : Place) (out₀ out : List ℕ) (p : Place) (n : 
   laid e =
       let all : laysMore (inv .text) (laysNone p) ≡ lays (length s) s (length out₀) p₀ = ap (laysMore (inv .text)) (sym e) ∙ inv .rest in
       let text : inv .text ≡ lays (length s) s (length out₀) p₀ .text = sym (append-nil (inv .text)) ∙ ap (λ (l : LaidText). l .text) all in
-      record
-      { place = ap (λ (l : LaidText). l .place) all
-      ; size = inv .used ∙ ap length text
-      ; bytes = inv .bytes ∙ ap (sets out₀ 0) text
-      ; within = inv .fits
+      record {
+        place = ap (λ (l : LaidText). l .place) all;
+        size = inv .used ∙ ap length text;
+        bytes = inv .bytes ∙ ap (sets out₀ 0) text;
+        within = inv .fits;
       }
 
   no-more : (most : ℕ) → length out₀ - n < 48 → lays most s (length out₀ - n) p ≡ laysNone p
@@ -212,21 +212,21 @@ module _ (s : List ℕ) (p₀ : Place) (out₀ out : List ℕ) (p : Place) (n : 
           let stored : Stored t out n after m = stored-as last h st in
           let few : length t ≤ 48 = text-few in
           let some : inv .most ≡ suc (inv .most - 1) = omega (arith, inv .enough, inside, bounds) in
-          record
-          { most = inv .most - 1
-          ; text = inv .text ++ t
-          ; used = stored .next ∙ omega (arith, inv .used, length-append (inv .text) t)
-          ; room = stored-length t out n after m stored ∙ inv .room
-          ; fits = omega (arith, stored .next, inv .room)
-          ; enough = omega (arith, at-next, inv .enough, bounds)
-          ; bytes = stored-both (inv .text) t out₀ out after 0 n m (record { next = omega (arith, inv .used); bytes = inv .bytes }) stored .bytes
-          ; rest =
-            let left : length out₀ - m ≡ length out₀ - n - length t = omega (arith, stored .next) in
-            ap₂ (λ (k : ℕ) (z : Place). laysMore (inv .text ++ t) (lays (inv .most - 1) s k z)) left (g ∙ after-is)
-            ∙ sym (more-more (inv .text) t (lays (inv .most - 1) s (length out₀ - n - length t) (afterAt p x size)))
-            ∙ ap (laysMore (inv .text)) (sym (one-more (inv .most - 1)))
-            ∙ ap (λ (k : ℕ). laysMore (inv .text) (lays k s (length out₀ - n) p)) (sym some)
-            ∙ inv .rest
+          record {
+            most = inv .most - 1;
+            text = inv .text ++ t;
+            used = stored .next ∙ omega (arith, inv .used, length-append (inv .text) t);
+            room = stored-length t out n after m stored ∙ inv .room;
+            fits = omega (arith, stored .next, inv .room);
+            enough = omega (arith, at-next, inv .enough, bounds);
+            bytes = stored-both (inv .text) t out₀ out after 0 n m (record { next = omega (arith, inv .used); bytes = inv .bytes }) stored .bytes;
+            rest =
+                let left : length out₀ - m ≡ length out₀ - n - length t = omega (arith, stored .next) in
+                ap₂ (λ (k : ℕ) (z : Place). laysMore (inv .text ++ t) (lays (inv .most - 1) s k z)) left (g ∙ after-is)
+                ∙ sym (more-more (inv .text) t (lays (inv .most - 1) s (length out₀ - n - length t) (afterAt p x size)))
+                ∙ ap (laysMore (inv .text)) (sym (one-more (inv .most - 1)))
+                ∙ ap (λ (k : ℕ). laysMore (inv .text) (lays k s (length out₀ - n) p)) (sym some)
+                ∙ inv .rest;
           }
 
 pub ruleset lay-laws = (lay-start, lay-room, lay-full, lay-end, lay-fits, lay-wide, lay-block, lay-less, lay-more)
@@ -249,12 +249,12 @@ module _ (k at : ℕ) (out : List ℕ) where
     unfolding refusedText
     refusal-laid after r place =
         let both : Stored (spaced (k ∷ []) ++ (spaced (at ∷ []) ++ feed true)) mid next after r =
-          stored-both (spaced (k ∷ [])) (spaced (at ∷ []) ++ feed true) mid mid′ after next next′ r number place in
+        stored-both (spaced (k ∷ [])) (spaced (at ∷ []) ++ feed true) mid mid′ after next next′ r number place in
         let same : spaced (k ∷ []) ++ (spaced (at ∷ []) ++ feed true) ≡ spaced (k ∷ at ∷ []) ++ feed true =
-          sym (append-assoc (spaced (k ∷ [])) (spaced (at ∷ [])) (feed true)) ∙ ap (λ (l : List ℕ). l ++ feed true) (sym (spaced-append (k ∷ []) (at ∷ []))) in
-        record
-        { fits = λ g. line (refused-stored out mid 0 next (spaced (k ∷ at ∷ []) ++ feed true) after r (subst (λ (l : List ℕ). Stored l mid next after r) same both) word)
-        ; short = λ g. absurd (omega arith)
+        sym (append-assoc (spaced (k ∷ [])) (spaced (at ∷ [])) (feed true)) ∙ ap (λ (l : List ℕ). l ++ feed true) (sym (spaced-append (k ∷ []) (at ∷ []))) in
+        record {
+          fits = λ g. line (refused-stored out mid 0 next (spaced (k ∷ at ∷ []) ++ feed true) after r (subst (λ (l : List ℕ). Stored l mid next after r) same both) word);
+          short = λ g. absurd (omega arith);
         }
       where
         line : Stored (refusedWord ++ (spaced (k ∷ at ∷ []) ++ feed true)) out 0 after r → Stored (refusedText k at) out 0 after r

@@ -52,7 +52,7 @@ kids-text n (x ∷ y ∷ more) rest small some =
 -- the child count of part n, its children, and what follows
 children-text : (n : ℕ) (kids rest : List ℕ) → n < 65536
     → feed (eqb (length kids) 0) ++ textFrom (placeAfter Children 0 n 0 (length kids)) (kids ++ rest)
-      ≡ spaced kids ++ (10 ∷ textFrom (at-part (n + 1)) rest)
+    ≡ spaced kids ++ (10 ∷ textFrom (at-part (n + 1)) rest)
 unfolding placeAfter nextPart feed spaced
 children-text n [] rest small =
     let part : n % 65536 + 1 ≡ n + 1 = omega arith in
@@ -69,8 +69,8 @@ parts-text n (e ∷ es) few =
     append-assoc (digits n) p _
     ∙ ap (λ (l : List ℕ). digits n ++ (p ++ l)) (children-text n (e .kids) (partNumbers es) (omega arith))
     ∙ ap (λ (l : List ℕ). digits n ++ l)
-      (sym (append-assoc p (spaced (e .kids)) (10 ∷ textFrom (at-part (n + 1)) (partNumbers es)))
-      ∙ ap₂ (λ (a b : List ℕ). a ++ (10 ∷ b)) (sym (spaced-append (e .path ∷ []) (e .kids))) (parts-text (n + 1) es (omega arith)))
+    (sym (append-assoc p (spaced (e .kids)) (10 ∷ textFrom (at-part (n + 1)) (partNumbers es)))
+    ∙ ap₂ (λ (a b : List ℕ). a ++ (10 ∷ b)) (sym (spaced-append (e .path ∷ []) (e .kids))) (parts-text (n + 1) es (omega arith)))
 
 -- a document's text is its listing
 pub document-text : (es : List Entry) → length es ≤ 65536 → textFrom documentStart (documentNumbers es) ≡ consistentText es
@@ -97,6 +97,6 @@ evidence-text n [] = append-nil (inconsistent ++ (spaced (n ∷ []) ++ (10 ∷ [
 evidence-text n (m ∷ ns) =
     append-assoc inconsistent (spaced (n ∷ []) ++ []) _
     ∙ ap (λ (l : List ℕ). inconsistent ++ l)
-      (ap₂ (λ (a b : List ℕ). a ++ b) (append-nil (spaced (n ∷ []))) (more-text m ns)
-      ∙ sym (append-assoc (spaced (n ∷ [])) (spaced (m ∷ ns)) (10 ∷ []))
-      ∙ ap (λ (l : List ℕ). l ++ (10 ∷ [])) (sym (spaced-append (n ∷ []) (m ∷ ns))))
+    (ap₂ (λ (a b : List ℕ). a ++ b) (append-nil (spaced (n ∷ []))) (more-text m ns)
+    ∙ sym (append-assoc (spaced (n ∷ [])) (spaced (m ∷ ns)) (10 ∷ []))
+    ∙ ap (λ (l : List ℕ). l ++ (10 ∷ [])) (sym (spaced-append (n ∷ []) (m ∷ ns))))

@@ -23,13 +23,13 @@ put-start text out at = record { most = omega arith; room = refl; rest = let z :
 module _ (text out₀ : List ℕ) (at : ℕ) (out : List ℕ) (i : ℕ) (inv : PutSoFar text out₀ at out i) where
   pub put-more : i < length text → PutSoFar text out₀ at (set out (at + i) (getD text i 0)) (i + 1)
   put-more h =
-      record
-      { most = omega arith
-      ; room = length-set out (at + i) (getD text i 0) ∙ inv .room
-      ; rest =
-        let k : at + (i + 1) ≡ suc (at + i) = omega arith in
-        ap₂ (λ (m : ℕ) (l : List ℕ). sets (set out (at + i) (getD text i 0)) m l) k (ap (λ (j : ℕ). drop j text) (add-one i))
-        ∙ (rw (drop-cons text i 0 h) at (inv .rest))
+      record {
+        most = omega arith;
+        room = length-set out (at + i) (getD text i 0) ∙ inv .room;
+        rest =
+            let k : at + (i + 1) ≡ suc (at + i) = omega arith in
+            ap₂ (λ (m : ℕ) (l : List ℕ). sets (set out (at + i) (getD text i 0)) m l) k (ap (λ (j : ℕ). drop j text) (add-one i))
+            ∙ (rw (drop-cons text i 0 h) at (inv .rest));
       }
 
   pub put-after : length text ≤ i → at + i ≡ at + length text
@@ -48,7 +48,7 @@ few-before zero n text = omega arith
 few-before (suc most) n text = by (eqb n 0) refl (few-before most (n / 10) ((48 + n % 10) ∷ text))
   where
     by : (t : Bool) → eqb n 0 ≡ t → length (digitsBefore most (n / 10) ((48 + n % 10) ∷ text)) ≤ most + suc (length text)
-      → length (digitsBefore (suc most) n text) ≤ suc most + length text
+        → length (digitsBefore (suc most) n text) ≤ suc most + length text
     by true e ih = rw (e, digitsBefore) (omega arith)
     by false e ih = rw (e, digitsBefore) (omega arith)
 
@@ -80,9 +80,9 @@ stored-length text out at after r e = ap length (e .bytes) ∙ length-sets out a
 pub spaced-stored : (n : ℕ) (out : List ℕ) (at : ℕ) (after : List ℕ) (r : ℕ) → Stored (digits n) (set out at 32) (at + 1) after r → Stored (spaced (n ∷ [])) out at after r
 unfolding spaced
 spaced-stored n out at after r e =
-    record
-    { next = e .next ∙ omega (arith, ap length (append-nil (digits n)))
-    ; bytes = e .bytes ∙ ap₂ (λ (k : ℕ) (l : List ℕ). sets (set out at 32) k l) (add-one at) (sym (append-nil (digits n)))
+    record {
+      next = e .next ∙ omega (arith, ap length (append-nil (digits n)));
+      bytes = e .bytes ∙ ap₂ (λ (k : ℕ) (l : List ℕ). sets (set out at 32) k l) (add-one at) (sym (append-nil (digits n)));
     }
 
 pub spaced-room : (out : List ℕ) (at : ℕ) → at + 21 ≤ length out → at + 1 + 20 ≤ length (set out at 32)
@@ -106,8 +106,8 @@ pub ruleset feed-laws = (feed-some, feed-none)
 -- one text and then another are stored one after the other
 pub stored-both : (a b out mid after : List ℕ) (at next r : ℕ) → Stored a out at mid next → Stored b mid next after r → Stored (a ++ b) out at after r
 stored-both a b out mid after at next r e f =
-    record
-    { next = f .next ∙ omega (arith, e .next, length-append a b)
-    ; bytes =
-      f .bytes ∙ ap₂ (λ (l : List ℕ) (k : ℕ). sets l k b) (e .bytes) (e .next) ∙ sym (sets-append a b out at)
+    record {
+      next = f .next ∙ omega (arith, e .next, length-append a b);
+      bytes =
+          f .bytes ∙ ap₂ (λ (l : List ℕ) (k : ℕ). sets l k b) (e .bytes) (e .next) ∙ sym (sets-append a b out at);
     }

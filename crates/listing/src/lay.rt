@@ -7,8 +7,6 @@ ghost use lib.ListN.{length, drop};
 ghost use lib.Seq.{sets};
 ghost use Rattle.listing.specs.Text.{digits, spaced, feed, Stored};
 ghost use Rattle.listing.specs.Lay.{consistent, inconsistent, pieceText, nextPart, placeAfter, Lays, LaysRefusal};
-
-
 use files::number::Number;
 use files::number::read_number;
 
@@ -142,7 +140,15 @@ fn put_first(last: bool, x: u64, out: &mut [u8], at: usize) -> usize
 }
 
 // The text of a number by what it is; `last`: no number follows it.
-fn put_piece(stage: Stage, part: u64, left: u64, last: bool, x: u64, out: &mut [u8], at: usize) -> usize
+fn put_piece(
+    stage: Stage,
+    part: u64,
+    left: u64,
+    last: bool,
+    x: u64,
+    out: &mut [u8],
+    at: usize,
+) -> usize
     requires { ⌜ at + 48 ≤ length (now out) ⌝ }
     ensures { λ r. ⌜ Stored (pieceText stage part left last x) (now (out .entry)) at (now (out .exit)) r ⌝ }
 {
@@ -173,22 +179,52 @@ fn place_after(stage: Stage, next: usize, part: u64, left: u64, x: u64) -> Place
     ensures { λ r. ⌜ r ≡ placeAfter stage next part left x ⌝ }
 {
     match stage {
-        Stage::Count => Place { at: next, stage: Stage::Path, part: 0, left: 0 },
-        Stage::Path => Place { at: next, stage: Stage::Children, part, left: 0 },
+        Stage::Count => Place {
+            at: next,
+            stage: Stage::Path,
+            part: 0,
+            left: 0,
+        },
+        Stage::Path => Place {
+            at: next,
+            stage: Stage::Children,
+            part,
+            left: 0,
+        },
         Stage::Children => {
             if x == 0 {
                 return next_part(next, part);
             }
-            Place { at: next, stage: Stage::Child, part, left: x }
+            Place {
+                at: next,
+                stage: Stage::Child,
+                part,
+                left: x,
+            }
         }
         Stage::Child => {
             if left <= 1 {
                 return next_part(next, part);
             }
-            Place { at: next, stage: Stage::Child, part, left: left - 1 }
+            Place {
+                at: next,
+                stage: Stage::Child,
+                part,
+                left: left - 1,
+            }
         }
-        Stage::First => Place { at: next, stage: Stage::More, part: 0, left: 0 },
-        Stage::More => Place { at: next, stage: Stage::More, part: 0, left: 0 },
+        Stage::First => Place {
+            at: next,
+            stage: Stage::More,
+            part: 0,
+            left: 0,
+        },
+        Stage::More => Place {
+            at: next,
+            stage: Stage::More,
+            part: 0,
+            left: 0,
+        },
     }
 }
 
@@ -207,7 +243,15 @@ pub fn lay(bytes: &[u8], from: Place, out: &mut [u8]) -> Laid
             Number::Is(n, size) => {
                 let stage = place.stage;
                 let next = at + size;
-                length = put_piece(stage, place.part, place.left, bytes.len() <= next, n as u64, out, length);
+                length = put_piece(
+                    stage,
+                    place.part,
+                    place.left,
+                    bytes.len() <= next,
+                    n as u64,
+                    out,
+                    length,
+                );
                 place = place_after(stage, next, place.part, place.left, n as u64);
             }
         }

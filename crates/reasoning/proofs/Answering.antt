@@ -143,7 +143,7 @@ module _ (parent kind left right : List ℕ) (count many k p q : ℕ) (sound : S
       → Stored (evidenceNumbers (parentOf parent) (ruleList kind left right many) count k p q) 392 before 0 after n
   evidence-both n before after other third f =
       let g : Stored (evidenceNumbers (parentOf parent) (ruleList kind left right many) count k p q) 398 before 0 after n =
-        both-are f in
+      both-are f in
       record { end = g .end; room = omega (arith, g .end, evidence-few .few); numbers = g .numbers }
     where
       both-are : Stored (implicationNumbers (parentOf parent) (ruleList kind left right many) count p q
@@ -152,7 +152,7 @@ module _ (parent kind left right : List ℕ) (count many k p q : ℕ) (sound : S
       both-are f = rw (numbers-both (parentOf parent) (ruleList kind left right many) count k p q other third) f
 
 pub ruleset evidence-laws =
-  (implied-yes, evidence-implies, excluded-yes, evidence-excludes, both-there, both-back, evidence-both)
+    (implied-yes, evidence-implies, excluded-yes, evidence-excludes, both-there, both-back, evidence-both)
 
 -- ---- an inconsistent set
 

@@ -84,12 +84,13 @@ module _ (t : Rules) (word : t .required < 2 ^ 64) (parent depth table : List �
   begins : (list : List ℕ) × Begins (parentOf parent) (t .paths) list (startOf goals top)
   begins =
       let a = askable-asked t kind p q (h .can) in
-      let b = begins-no (table-fits t valid) kind p q (a .first) (a .second) in
-      (b .0,
-      subst (λ (s : Start). Begins (parentOf parent) (t .paths) (b .0) s) (sym (h .begins))
-      (subst (λ (f : ℕ → ℕ). Begins f (t .paths) (b .0) (startNo f (ruleList (t .kind) (t .left) (t .right) (t .rules)) (t .paths) kind p q))
-      (sym (arrays-parents t valid parent (h .lent .lent)))
-      (subst (λ (l : List _). Begins (parentsOf t) (t .paths) (b .0) (startNo (parentsOf t) l (t .paths) kind p q)) (sym (arrays-rules t)) (b .1))))
+      let b = begins-no (table-fits t valid) kind p q (a .first) (a .second) in (
+        b .0,
+        subst (λ (s : Start). Begins (parentOf parent) (t .paths) (b .0) s) (sym (h .begins))
+            (subst (λ (f : ℕ → ℕ). Begins f (t .paths) (b .0) (startNo f (ruleList (t .kind) (t .left) (t .right) (t .rules)) (t .paths) kind p q))
+            (sym (arrays-parents t valid parent (h .lent .lent)))
+            (subst (λ (l : List _). Begins (parentsOf t) (t .paths) (b .0) (startNo (parentsOf t) l (t .paths) kind p q)) (sym (arrays-rules t)) (b .1))),
+      )
 
   pub counter-writable : Writable parent depth table (t .paths) goals top
   counter-writable =

@@ -49,9 +49,9 @@ stored-append ns ms before mid after a b start next r f g = record {
   end = omega (arith, f .end, g .end, length-append ns ms);
   room = omega (arith, f .room, g .room);
   numbers =
-    g .numbers
-    ∙ ap₂ (λ (l : List ℕ) (k : ℕ). sets l k ms) (f .numbers) (f .end)
-    ∙ sym (sets-append ns ms before start);
+      g .numbers
+      ∙ ap₂ (λ (l : List ℕ) (k : ℕ). sets l k ms) (f .numbers) (f .end)
+      ∙ sym (sets-append ns ms before start);
 }
 
 module _ (ns before after : List ℕ) (most start r : ℕ) where
@@ -263,7 +263,7 @@ module _ (parent kind left right depth table : List ℕ) (count many clash : ℕ
       implication-dead h f = rw (implicationNumbers, reach-is, h) f
 
 pub ruleset implication-laws =
-  (decided-ready, direct-is, implied-direct, implied-dead, implication-is-dead, implication-direct, implication-dead)
+    (decided-ready, direct-is, implied-direct, implied-dead, implication-is-dead, implication-direct, implication-dead)
 
 pub both-stored : (ns ms before mid after : List ℕ) (start next n : ℕ) → Stored ns 199 before start mid next → Stored ms 199 mid next after n
     → Stored (ns ++ ms) 398 before start after n
@@ -277,7 +277,7 @@ module _ (parent kind left right : List ℕ) (count many p q c x : ℕ) (is : c 
   unfolding isPair
   pair-low h =
       let l : pairRule (parentOf parent) (ruleList kind left right many) count (contextOf (parentOf parent) p q) p q
-        < length (ruleList kind left right many) = ltb-true _ _ h in
+      < length (ruleList kind left right many) = ltb-true _ _ h in
       rw (rule, is) (omega (arith, l, rules-length kind left right many))
 
   pub pair-found : ltb x many ≡ isPair (parentOf parent) (ruleList kind left right many) count (contextOf (parentOf parent) p q) p q
@@ -343,4 +343,4 @@ module _ (parent kind left right depth table : List ℕ) (count many clash : ℕ
           rw (absenceNumbers, deadP, h, deadQ, g) (stored-more _ before after 135 199 start n (omega arith) f)
 
 pub ruleset absence-laws =
-  (dead-test, excluded-first, absence-first, excluded-second, absence-second, excluded-pair, absence-is-pair, absence-pair)
+    (dead-test, excluded-first, absence-first, excluded-second, absence-second, excluded-pair, absence-is-pair, absence-pair)

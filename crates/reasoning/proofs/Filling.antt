@@ -283,7 +283,7 @@ module _ (parent kind left right : List ℕ) (count many : ℕ) where
           → lookup depth table a x ≡ reached parent kind left right count many a x
       pick a x h k (yes b) =
           let is : word a x ≡ reached parent kind left right count many a x =
-            rw (level a h) (f .done a x b k (inl (omega arith))) in
+          rw (level a h) (f .done a x b k (inl (omega arith))) in
           sym (lookup-in depth table a x (word a x) (x * 8 + (getD depth a 0 - 1)) refl refl true
           (sym (rw is (reached-top sound a x h k b))) refl) ∙ is
       pick a x h k (no n) =

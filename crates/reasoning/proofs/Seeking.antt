@@ -260,9 +260,9 @@ unfolding walkNumbers writtenWalk
 walk-stored parent kind left right count many c x y within goal n start layers before after inside is found rest =
     let codes : List ℕ = forward (parentOf parent) (ruleList kind left right many) x (nearerOf layers n) in
     let same : seek (parentOf parent) (ruleList kind left right many) count (subtree (parentOf parent) count c) 64 x
-      (alone (subtree (parentOf parent) count c) y) [] ≡ codes = rw (← inside, ← is) (sym (found .walk)) in
+    (alone (subtree (parentOf parent) count c) y) [] ≡ codes = rw (← inside, ← is) (sym (found .walk)) in
     let long : length codes ≡ n =
-      forward-length (parentOf parent) (ruleList kind left right many) x (nearerOf layers n) ∙ nearer-length layers n in
+    forward-length (parentOf parent) (ruleList kind left right many) x (nearerOf layers n) ∙ nearer-length layers n in
     rw same
     (record {
       end = omega (arith, long);

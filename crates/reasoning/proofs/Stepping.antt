@@ -299,7 +299,7 @@ module _ (parent kind left right : List ℕ) (count many within : ℕ) (fits : w
           let f : ℕ = 2 ^ 64 - 1 in
           let n : pass s ≡ s → ⊥ = λ e. other (same-pass ∙ e) in
           let more : settle pass f (pass s) ≡ settle pass (suc f) (pass s) =
-            settle-more pass pass-grows pass-small f (pass s) (pass-small s h) (omega (arith, pass-grows s, n)) in
+          settle-more pass pass-grows pass-small f (pass s) (pass-small s h) (omega (arith, pass-grows s, n)) in
           ap (settle pass (suc f)) same-pass ∙ sym more ∙ sym (settle-step pass f s n) ∙ inv
 
       pub settle-end : next ≡ s → s ≡ v

@@ -207,7 +207,7 @@ module _ {parent kind left right depth table : List ℕ} {count many : ℕ} (kno
           arith,
           left-in,
           below-le (known .sound .parents .descending)
-          (contextOf-context (known .sound .parents .descending) (getD left x 0) (getD right x 0) .left),
+              (contextOf-context (known .sound .parents .descending) (getD left x 0) (getD right x 0) .left),
         )
 
     both-same : (y : ℕ) → y < count

@@ -93,7 +93,16 @@ pub(crate) fn clashing(
     let mut w = 0u64;
     let mut x = 0usize;
     while x < many {
-        w = clash_by(parent, count, depth, table, kind[x], wide(left[x]), wide(right[x]), w);
+        w = clash_by(
+            parent,
+            count,
+            depth,
+            table,
+            kind[x],
+            wide(left[x]),
+            wide(right[x]),
+            w,
+        );
         x += 1;
     }
     w
@@ -137,7 +146,16 @@ pub(crate) fn clash_rule(
 {
     let mut x = 0usize;
     while x < many {
-        if clashes_at(parent, count, depth, table, kind[x], wide(left[x]), wide(right[x]), y) {
+        if clashes_at(
+            parent,
+            count,
+            depth,
+            table,
+            kind[x],
+            wide(left[x]),
+            wide(right[x]),
+            y,
+        ) {
             return x;
         }
         x += 1;
@@ -243,7 +261,18 @@ pub(crate) fn pair_rule(
 {
     let mut x = 0usize;
     while x < many {
-        if pair_by(parent, count, depth, table, kind[x], wide(left[x]), wide(right[x]), c, p, q) {
+        if pair_by(
+            parent,
+            count,
+            depth,
+            table,
+            kind[x],
+            wide(left[x]),
+            wide(right[x]),
+            c,
+            p,
+            q,
+        ) {
             return x;
         }
         x += 1;
@@ -292,7 +321,18 @@ pub(crate) fn pair_side(
     requires { ⌜ Known (now parent) (now kind) (now left) (now right) count many (now depth) (now table) × (c < count) × (p < count) × (q < count) × (x < many) ⌝ }
     ensures { λ r. ⌜ (r ≡ pairSide (parentOf (now (parent .entry))) (ruleList (now (kind .entry)) (now (left .entry)) (now (right .entry)) many) count c p q x) × (r ≤ 1) ⌝ }
 {
-    if straight_by(parent, count, depth, table, kind[x], wide(left[x]), wide(right[x]), c, p, q) {
+    if straight_by(
+        parent,
+        count,
+        depth,
+        table,
+        kind[x],
+        wide(left[x]),
+        wide(right[x]),
+        c,
+        p,
+        q,
+    ) {
         return 0;
     }
     1

@@ -43,7 +43,19 @@ fn put_direct(
 {
     numbers[start] = 1;
     let c = context(parent, p, q);
-    put_walk(parent, kind, left, right, count, many, c, p, q, numbers, start + 1)
+    put_walk(
+        parent,
+        kind,
+        left,
+        right,
+        count,
+        many,
+        c,
+        p,
+        q,
+        numbers,
+        start + 1,
+    )
 }
 
 // The walks from x to l and from y to r inside a, stored from `start` on; the place after them.
@@ -65,8 +77,32 @@ fn put_walks(
     requires { ⌜ Sound (now parent) (now kind) (now left) (now right) count many × (a < count) × (x < count) × (y < count) × (start ≤ 270) ⌝ }
     ensures { λ n. ⌜ Stored (walkNumbers (writtenWalk (parentOf (now (parent .entry))) (ruleList (now (kind .entry)) (now (left .entry)) (now (right .entry)) many) count a x l) ++ walkNumbers (writtenWalk (parentOf (now (parent .entry))) (ruleList (now (kind .entry)) (now (left .entry)) (now (right .entry)) many) count a y r)) 130 (now (numbers .entry)) start (now (numbers .exit)) n ⌝ }
 {
-    let next = put_walk(parent, kind, left, right, count, many, a, x, l, numbers, start);
-    put_walk(parent, kind, left, right, count, many, a, y, r, numbers, next)
+    let next = put_walk(
+        parent,
+        kind,
+        left,
+        right,
+        count,
+        many,
+        a,
+        x,
+        l,
+        numbers,
+        start,
+    );
+    put_walk(
+        parent,
+        kind,
+        left,
+        right,
+        count,
+        many,
+        a,
+        y,
+        r,
+        numbers,
+        next,
+    )
 }
 
 // The walk from p to y inside the root, and those from y to both sides of rule x inside its context; the place after them.
@@ -86,11 +122,37 @@ fn put_clash(
     requires { ⌜ Sound (now parent) (now kind) (now left) (now right) count many × (p < count) × (y < count) × (x < many) × (start ≤ 204) ⌝ }
     ensures { λ n. ⌜ Stored (clashNumbers (parentOf (now (parent .entry))) (ruleList (now (kind .entry)) (now (left .entry)) (now (right .entry)) many) count p y x) 195 (now (numbers .entry)) start (now (numbers .exit)) n ⌝ }
 {
-    let next = put_walk(parent, kind, left, right, count, many, 0, p, y, numbers, start);
+    let next = put_walk(
+        parent,
+        kind,
+        left,
+        right,
+        count,
+        many,
+        0,
+        p,
+        y,
+        numbers,
+        start,
+    );
     let l = wide(left[x]);
     let r = wide(right[x]);
     let a = context(parent, l, r);
-    put_walks(parent, kind, left, right, count, many, a, y, l, y, r, numbers, next)
+    put_walks(
+        parent,
+        kind,
+        left,
+        right,
+        count,
+        many,
+        a,
+        y,
+        l,
+        y,
+        r,
+        numbers,
+        next,
+    )
 }
 
 // The evidence by y and rule x that p is dead, stored from `start` on; the place after it.
@@ -114,7 +176,19 @@ fn put_dead_by(
     numbers[start + 1] = p as u32;
     numbers[start + 2] = y as u32;
     numbers[start + 3] = x as u32;
-    put_clash(parent, kind, left, right, count, many, p, y, x, numbers, start + 4)
+    put_clash(
+        parent,
+        kind,
+        left,
+        right,
+        count,
+        many,
+        p,
+        y,
+        x,
+        numbers,
+        start + 4,
+    )
 }
 
 // The evidence that p is dead, stored from `start` on; the place after it.
@@ -137,7 +211,19 @@ fn put_dead(
 {
     let y = sets::lowest(clashes_from(depth, table, clash, p));
     let x = clash_rule(parent, kind, left, right, count, many, depth, table, y);
-    put_dead_by(parent, kind, left, right, count, many, p, y, x, numbers, start)
+    put_dead_by(
+        parent,
+        kind,
+        left,
+        right,
+        count,
+        many,
+        p,
+        y,
+        x,
+        numbers,
+        start,
+    )
 }
 
 // The walks of a pair: from p to the first and from q to the second side of rule x; the place after them.
@@ -162,9 +248,37 @@ fn put_ends(
     let r = wide(right[x]);
     let a = context(parent, l, r);
     if side == 0 {
-        return put_walks(parent, kind, left, right, count, many, a, p, l, q, r, numbers, start);
+        return put_walks(
+            parent,
+            kind,
+            left,
+            right,
+            count,
+            many,
+            a,
+            p,
+            l,
+            q,
+            r,
+            numbers,
+            start,
+        );
     }
-    put_walks(parent, kind, left, right, count, many, a, p, r, q, l, numbers, start)
+    put_walks(
+        parent,
+        kind,
+        left,
+        right,
+        count,
+        many,
+        a,
+        p,
+        r,
+        q,
+        l,
+        numbers,
+        start,
+    )
 }
 
 // The evidence by rule x and its side that p and q are excluded, stored from `start` on; the place after it.
@@ -190,7 +304,20 @@ fn put_pair(
     numbers[start + 2] = q as u32;
     numbers[start + 3] = x as u32;
     numbers[start + 4] = side as u32;
-    put_ends(parent, kind, left, right, count, many, p, q, x, side, numbers, start + 5)
+    put_ends(
+        parent,
+        kind,
+        left,
+        right,
+        count,
+        many,
+        p,
+        q,
+        x,
+        side,
+        numbers,
+        start + 5,
+    )
 }
 
 // Whether q is reachable from p inside their context.
@@ -231,7 +358,20 @@ fn put_implication(
     if is_direct(parent, count, depth, table, p, q) {
         return put_direct(parent, kind, left, right, count, many, p, q, numbers, start);
     }
-    put_dead(parent, kind, left, right, count, many, depth, table, clash, p, numbers, start)
+    put_dead(
+        parent,
+        kind,
+        left,
+        right,
+        count,
+        many,
+        depth,
+        table,
+        clash,
+        p,
+        numbers,
+        start,
+    )
 }
 
 // The evidence for the pair p, q by the least rule, stored from `start` on; the place after it.
@@ -254,9 +394,47 @@ fn put_least_pair(
     ensures { λ n. ⌜ Stored (leastPairNumbers (parentOf (now (parent .entry))) (ruleList (now (kind .entry)) (now (left .entry)) (now (right .entry)) many) count p q) 135 (now (numbers .entry)) start (now (numbers .exit)) n ⌝ }
 {
     let c = context(parent, p, q);
-    let x = pair_rule(parent, kind, left, right, count, many, depth, table, c, p, q);
-    let side = pair_side(parent, kind, left, right, count, many, depth, table, c, p, q, x);
-    put_pair(parent, kind, left, right, count, many, p, q, x, side, numbers, start)
+    let x = pair_rule(
+        parent,
+        kind,
+        left,
+        right,
+        count,
+        many,
+        depth,
+        table,
+        c,
+        p,
+        q,
+    );
+    let side = pair_side(
+        parent,
+        kind,
+        left,
+        right,
+        count,
+        many,
+        depth,
+        table,
+        c,
+        p,
+        q,
+        x,
+    );
+    put_pair(
+        parent,
+        kind,
+        left,
+        right,
+        count,
+        many,
+        p,
+        q,
+        x,
+        side,
+        numbers,
+        start,
+    )
 }
 
 // The evidence for an absence, stored from `start` on; the place after it.
@@ -279,12 +457,52 @@ fn put_absence(
     ensures { λ n. ⌜ Stored (absenceNumbers (parentOf (now (parent .entry))) (ruleList (now (kind .entry)) (now (left .entry)) (now (right .entry)) many) count p q) 199 (now (numbers .entry)) start (now (numbers .exit)) n ⌝ }
 {
     if is_dead(depth, table, clash, p) {
-        return put_dead(parent, kind, left, right, count, many, depth, table, clash, p, numbers, start);
+        return put_dead(
+            parent,
+            kind,
+            left,
+            right,
+            count,
+            many,
+            depth,
+            table,
+            clash,
+            p,
+            numbers,
+            start,
+        );
     }
     if is_dead(depth, table, clash, q) {
-        return put_dead(parent, kind, left, right, count, many, depth, table, clash, q, numbers, start);
+        return put_dead(
+            parent,
+            kind,
+            left,
+            right,
+            count,
+            many,
+            depth,
+            table,
+            clash,
+            q,
+            numbers,
+            start,
+        );
     }
-    put_least_pair(parent, kind, left, right, count, many, depth, table, clash, p, q, numbers, start)
+    put_least_pair(
+        parent,
+        kind,
+        left,
+        right,
+        count,
+        many,
+        depth,
+        table,
+        clash,
+        p,
+        q,
+        numbers,
+        start,
+    )
 }
 
 // The evidence for both implications, p to q first, stored from `start` on; the place after it.
@@ -306,8 +524,36 @@ fn put_both(
     requires { ⌜ Decided (now parent) (now kind) (now left) (now right) count many (now depth) (now table) clash × (p < count) × (q < count) × (impliesb (parentOf (now parent)) (ruleList (now kind) (now left) (now right) many) count p q ≡ true) × (impliesb (parentOf (now parent)) (ruleList (now kind) (now left) (now right) many) count q p ≡ true) × (start ≤ 1) ⌝ }
     ensures { λ n. ⌜ Stored (implicationNumbers (parentOf (now (parent .entry))) (ruleList (now (kind .entry)) (now (left .entry)) (now (right .entry)) many) count p q ++ implicationNumbers (parentOf (now (parent .entry))) (ruleList (now (kind .entry)) (now (left .entry)) (now (right .entry)) many) count q p) 398 (now (numbers .entry)) start (now (numbers .exit)) n ⌝ }
 {
-    let next = put_implication(parent, kind, left, right, count, many, depth, table, clash, p, q, numbers, start);
-    put_implication(parent, kind, left, right, count, many, depth, table, clash, q, p, numbers, next)
+    let next = put_implication(
+        parent,
+        kind,
+        left,
+        right,
+        count,
+        many,
+        depth,
+        table,
+        clash,
+        p,
+        q,
+        numbers,
+        start,
+    );
+    put_implication(
+        parent,
+        kind,
+        left,
+        right,
+        count,
+        many,
+        depth,
+        table,
+        clash,
+        q,
+        p,
+        numbers,
+        next,
+    )
 }
 
 // The evidence for a question answered yes, stored at the start; how many numbers it is.
@@ -330,12 +576,54 @@ pub(crate) fn put_evidence(
     ensures { λ n. ⌜ Stored (evidenceNumbers (parentOf (now (parent .entry))) (ruleList (now (kind .entry)) (now (left .entry)) (now (right .entry)) many) count k p q) 392 (now (numbers .entry)) 0 (now (numbers .exit)) n ⌝ }
 {
     if k == 1 {
-        return put_implication(parent, kind, left, right, count, many, depth, table, clash, p, q, numbers, 0);
+        return put_implication(
+            parent,
+            kind,
+            left,
+            right,
+            count,
+            many,
+            depth,
+            table,
+            clash,
+            p,
+            q,
+            numbers,
+            0,
+        );
     }
     if k == 2 {
-        return put_absence(parent, kind, left, right, count, many, depth, table, clash, p, q, numbers, 0);
+        return put_absence(
+            parent,
+            kind,
+            left,
+            right,
+            count,
+            many,
+            depth,
+            table,
+            clash,
+            p,
+            q,
+            numbers,
+            0,
+        );
     }
-    put_both(parent, kind, left, right, count, many, depth, table, clash, p, q, numbers, 0)
+    put_both(
+        parent,
+        kind,
+        left,
+        right,
+        count,
+        many,
+        depth,
+        table,
+        clash,
+        p,
+        q,
+        numbers,
+        0,
+    )
 }
 
 // The evidence for the pair by rule x, an absence at the root that excludes two paths asked for; the place after it.
@@ -357,19 +645,48 @@ fn put_root_pair(
     requires { ⌜ Decided (now parent) (now kind) (now left) (now right) count many (now depth) (now table) clash × (x < many) × (rootb (parentOf (now parent)) (ruleList (now kind) (now left) (now right) many) count asked x ≡ true) × (start ≤ 200) ⌝ }
     ensures { λ n. ⌜ Stored (pairNumbers (parentOf (now (parent .entry))) (ruleList (now (kind .entry)) (now (left .entry)) (now (right .entry)) many) count (rootFirst (parentOf (now (parent .entry))) (ruleList (now (kind .entry)) (now (left .entry)) (now (right .entry)) many) count asked x) (rootSecond (parentOf (now (parent .entry))) (ruleList (now (kind .entry)) (now (left .entry)) (now (right .entry)) many) count asked x) x 0) 135 (now (numbers .entry)) start (now (numbers .exit)) n ⌝ }
 {
-    let p = reacher(parent, kind, left, right, count, many, depth, table, asked, wide(left[x]));
-    let q = reacher(parent, kind, left, right, count, many, depth, table, asked, wide(right[x]));
-    put_pair(parent, kind, left, right, count, many, p, q, x, 0, numbers, start)
+    let p = reacher(
+        parent,
+        kind,
+        left,
+        right,
+        count,
+        many,
+        depth,
+        table,
+        asked,
+        wide(left[x]),
+    );
+    let q = reacher(
+        parent,
+        kind,
+        left,
+        right,
+        count,
+        many,
+        depth,
+        table,
+        asked,
+        wide(right[x]),
+    );
+    put_pair(
+        parent,
+        kind,
+        left,
+        right,
+        count,
+        many,
+        p,
+        q,
+        x,
+        0,
+        numbers,
+        start,
+    )
 }
 
 // The dead paths that are asked for.
-fn dead_asked(
-    depth: &[u8; 64],
-    table: &[u64; 512],
-    clash: u64,
-    count: usize,
-    asked: u64,
-) -> u64
+fn dead_asked(depth: &[u8; 64], table: &[u64; 512], clash: u64, count: usize, asked: u64) -> u64
     requires { ⌜ (count ≤ 64) × Placed (now depth) 0 0 ⌝ }
     ensures { λ t. ⌜ t ≡ deadAskedIn (now (depth .entry)) (now (table .entry)) clash count asked ⌝ }
 {
@@ -395,10 +712,37 @@ pub(crate) fn put_inconsistent(
 {
     let x = root_rule(parent, kind, left, right, count, many, depth, table, asked);
     if x < many {
-        return put_root_pair(parent, kind, left, right, count, many, depth, table, clash, asked, x, numbers, 0);
+        return put_root_pair(
+            parent,
+            kind,
+            left,
+            right,
+            count,
+            many,
+            depth,
+            table,
+            clash,
+            asked,
+            x,
+            numbers,
+            0,
+        );
     }
     let p = sets::lowest(dead_asked(depth, table, clash, count, asked));
-    put_dead(parent, kind, left, right, count, many, depth, table, clash, p, numbers, 0)
+    put_dead(
+        parent,
+        kind,
+        left,
+        right,
+        count,
+        many,
+        depth,
+        table,
+        clash,
+        p,
+        numbers,
+        0,
+    )
 }
 
 // Whether an implication is answered yes: direct, or p is dead.
@@ -448,7 +792,20 @@ fn excludes(
         return true;
     }
     let c = context(parent, p, q);
-    pair_rule(parent, kind, left, right, count, many, depth, table, c, p, q) < many
+    pair_rule(
+        parent,
+        kind,
+        left,
+        right,
+        count,
+        many,
+        depth,
+        table,
+        c,
+        p,
+        q,
+    )
+        < many
 }
 
 // Whether a question is answered yes.
@@ -470,13 +827,61 @@ pub(crate) fn yes(
     ensures { λ t. ⌜ t ≡ yesb (parentOf (now (parent .entry))) (ruleList (now (kind .entry)) (now (left .entry)) (now (right .entry)) many) count k p q ⌝ }
 {
     if k == 1 {
-        return implies(parent, kind, left, right, count, many, depth, table, clash, p, q);
+        return implies(
+            parent,
+            kind,
+            left,
+            right,
+            count,
+            many,
+            depth,
+            table,
+            clash,
+            p,
+            q,
+        );
     }
     if k == 2 {
-        return excludes(parent, kind, left, right, count, many, depth, table, clash, p, q);
+        return excludes(
+            parent,
+            kind,
+            left,
+            right,
+            count,
+            many,
+            depth,
+            table,
+            clash,
+            p,
+            q,
+        );
     }
-    if implies(parent, kind, left, right, count, many, depth, table, clash, p, q) {
-        return implies(parent, kind, left, right, count, many, depth, table, clash, q, p);
+    if implies(
+        parent,
+        kind,
+        left,
+        right,
+        count,
+        many,
+        depth,
+        table,
+        clash,
+        p,
+        q,
+    ) {
+        return implies(
+            parent,
+            kind,
+            left,
+            right,
+            count,
+            many,
+            depth,
+            table,
+            clash,
+            q,
+            p,
+        );
     }
     false
 }

@@ -76,7 +76,19 @@ fn put_conflict(
     let left = rules.left;
     let right = rules.right;
     let mut numbers = [0u32; 400];
-    let n = put_inconsistent(parent, &kind, &left, &right, rules.paths, rules.rules, depth, table, clash, asked, &mut numbers);
+    let n = put_inconsistent(
+        parent,
+        &kind,
+        &left,
+        &right,
+        rules.paths,
+        rules.rules,
+        depth,
+        table,
+        clash,
+        asked,
+        &mut numbers,
+    );
     shown(put_numbers(&numbers[..n], out))
 }
 
@@ -94,7 +106,18 @@ fn decide(rules: Rules, parent: &[u8; 64], out: &mut [u8]) -> Verdict
     let table = reach_table(parent, &kind, &left, &right, count, many, &depth);
     let clash = clashing(parent, &kind, &left, &right, count, many, &depth, &table);
     let asked = sets::with(rules.required, 0);
-    if consistent(parent, &kind, &left, &right, count, many, &depth, &table, clash, asked) {
+    if consistent(
+        parent,
+        &kind,
+        &left,
+        &right,
+        count,
+        many,
+        &depth,
+        &table,
+        clash,
+        asked,
+    ) {
         return put_witness(rules, parent, &depth, &table, asked, out);
     }
     put_conflict(rules, parent, &depth, &table, clash, asked, out)

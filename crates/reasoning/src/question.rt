@@ -80,7 +80,21 @@ fn put_yes(
     let left = rules.left;
     let right = rules.right;
     let mut numbers = [0u32; 400];
-    let n = put_evidence(parent, &kind, &left, &right, rules.paths, rules.rules, depth, table, clash, k, p, q, &mut numbers);
+    let n = put_evidence(
+        parent,
+        &kind,
+        &left,
+        &right,
+        rules.paths,
+        rules.rules,
+        depth,
+        table,
+        clash,
+        k,
+        p,
+        q,
+        &mut numbers,
+    );
     affirmed(put_numbers(&numbers[..n], out))
 }
 
@@ -119,20 +133,76 @@ fn put_no(
     ensures { λ r. ⌜ AnswersQuestion rules k p q (now (out .entry)) r (now (out .exit)) ⌝ }
 {
     if k == 1 {
-        return put_counter(rules, parent, depth, table, k, p, q, sets::with(0, p), p, out);
+        return put_counter(
+            rules,
+            parent,
+            depth,
+            table,
+            k,
+            p,
+            q,
+            sets::with(0, p),
+            p,
+            out,
+        );
     }
     if k == 2 {
         let top = context(parent, p, q);
         let one = sets::with(0, q);
-        return put_counter(rules, parent, depth, table, k, p, q, sets::with(one, p), top, out);
+        return put_counter(
+            rules,
+            parent,
+            depth,
+            table,
+            k,
+            p,
+            q,
+            sets::with(one, p),
+            top,
+            out,
+        );
     }
     let kind = rules.kind;
     let left = rules.left;
     let right = rules.right;
-    if implies(parent, &kind, &left, &right, rules.paths, rules.rules, depth, table, clash, p, q) {
-        return put_counter(rules, parent, depth, table, k, p, q, sets::with(0, q), q, out);
+    if implies(
+        parent,
+        &kind,
+        &left,
+        &right,
+        rules.paths,
+        rules.rules,
+        depth,
+        table,
+        clash,
+        p,
+        q,
+    ) {
+        return put_counter(
+            rules,
+            parent,
+            depth,
+            table,
+            k,
+            p,
+            q,
+            sets::with(0, q),
+            q,
+            out,
+        );
     }
-    put_counter(rules, parent, depth, table, k, p, q, sets::with(0, p), p, out)
+    put_counter(
+        rules,
+        parent,
+        depth,
+        table,
+        k,
+        p,
+        q,
+        sets::with(0, p),
+        p,
+        out,
+    )
 }
 
 // The reply to a question that can be asked, of a table that passed its test.
@@ -148,7 +218,20 @@ fn answer(rules: Rules, parent: &[u8; 64], k: u8, p: usize, q: usize, out: &mut 
     let depth = depths(parent, count);
     let table = reach_table(parent, &kind, &left, &right, count, many, &depth);
     let clash = clashing(parent, &kind, &left, &right, count, many, &depth, &table);
-    if yes(parent, &kind, &left, &right, count, many, &depth, &table, clash, k, p, q) {
+    if yes(
+        parent,
+        &kind,
+        &left,
+        &right,
+        count,
+        many,
+        &depth,
+        &table,
+        clash,
+        k,
+        p,
+        q,
+    ) {
         return put_yes(rules, parent, &depth, &table, clash, k, p, q, out);
     }
     put_no(rules, parent, &depth, &table, clash, k, p, q, out)

@@ -91,7 +91,19 @@ fn fill_inside(
     let within = subtree(parent, count, c);
     let mut x = c;
     while x < count {
-        fill_word(parent, kind, left, right, count, many, within, d, c, x, table);
+        fill_word(
+            parent,
+            kind,
+            left,
+            right,
+            count,
+            many,
+            within,
+            d,
+            c,
+            x,
+            table,
+        );
         x += 1;
     }
 }
@@ -112,7 +124,17 @@ pub(crate) fn reach_table(
     let mut table = [0u64; 512];
     let mut c = 0usize;
     while c < count {
-        fill_inside(parent, kind, left, right, count, many, depth[c], c, &mut table);
+        fill_inside(
+            parent,
+            kind,
+            left,
+            right,
+            count,
+            many,
+            depth[c],
+            c,
+            &mut table,
+        );
         c += 1;
     }
     table

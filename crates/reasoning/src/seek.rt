@@ -192,8 +192,31 @@ pub(crate) fn put_walk(
     let within = subtree(parent, count, c);
     let goal = alone(within, y);
     let mut layers = [0u64; 64];
-    let n = seek(parent, kind, left, right, count, many, within, x, goal, &mut layers);
+    let n = seek(
+        parent,
+        kind,
+        left,
+        right,
+        count,
+        many,
+        within,
+        x,
+        goal,
+        &mut layers,
+    );
     numbers[start] = n as u32;
-    go_on(parent, kind, left, right, count, many, &layers, n, x, numbers, start + 1);
+    go_on(
+        parent,
+        kind,
+        left,
+        right,
+        count,
+        many,
+        &layers,
+        n,
+        x,
+        numbers,
+        start + 1,
+    );
     start + 1 + n
 }

@@ -21,7 +21,12 @@ fn write_start(block: &[u8], n: usize) {
 // Prints the numbers of a document or of evidence, block by block.
 fn print_numbers(bytes: &[u8], stage: Stage) {
     let mut block = io::buffer();
-    let mut place = Place { at: 0, stage, part: 0, left: 0 };
+    let mut place = Place {
+        at: 0,
+        stage,
+        part: 0,
+        left: 0,
+    };
     let mut turns = 65536u32;
     while 0 < turns {
         let laid = lay(bytes, place, &mut block);
