@@ -17,8 +17,8 @@ use Rattle.files.specs.Writing.{wrapped}
 use Rattle.files.proofs.SetBits.{has-common, common-lt}
 use Rattle.files.proofs.Stores.{size-short, size-long}
 use Rattle.documents.specs.Paths.{contextOf}
-use Rattle.reasoning.specs.Least.{passing, someIn}
-use Rattle.reasoning.specs.Decide.{
+use Rattle.theory.specs.Least.{passing, someIn}
+use Rattle.theory.specs.Decide.{
   ruleAt,
   isDead,
   deadPaths,
@@ -32,7 +32,7 @@ use Rattle.reasoning.specs.Decide.{
   isAskedDead,
   deadAsked,
 }
-use Rattle.reasoning.specs.Evidence.{
+use Rattle.theory.specs.Evidence.{
   impliesb,
   excludesb,
   yesb,
@@ -48,12 +48,12 @@ use Rattle.reasoning.specs.Evidence.{
 use Rattle.reasoning.specs.Arrays.{parentOf, ruleList, Sound}
 use Rattle.reasoning.specs.Layers.{Stored}
 use Rattle.reasoning.specs.Words.{deadIn, deadAskedIn, Decided}
-use Rattle.reasoning.proofs.Least.{passing-iff, passing-small, some-lowest, least-passes}
+use Rattle.theory.proofs.Least.{passing-iff, passing-small, some-lowest, least-passes}
 use Rattle.reasoning.proofs.Filling.{sound-fits}
 use Rattle.reasoning.proofs.WordJoins.{ruleIn, rules-length, rule-at, dead-all}
 use Rattle.reasoning.proofs.Collecting.{stored-more}
-use Rattle.reasoning.proofs.Writes.{evidence-written, inconsistent-written}
-use Rattle.reasoning.proofs.EvidenceSize.{evidence-bounded, inconsistent-bounded}
+use Rattle.theory.proofs.Writes.{evidence-written, inconsistent-written}
+use Rattle.theory.proofs.EvidenceSize.{evidence-bounded, inconsistent-bounded}
 
 -- ---- questions
 

@@ -18,10 +18,10 @@ use Rattle.documents.specs.Paths.{Descending, contextOf}
 use Rattle.reasoning.specs.declared.question.Reply.{Reply}
 use Rattle.reasoning.specs.Arrays.{parentOf, ruleList, Sound}
 use Rattle.reasoning.specs.Calls.{askable, answerOf, parentsOf, ruleListOf, AnswersQuestion}
-use Rattle.reasoning.specs.Decide.{clashing}
+use Rattle.theory.specs.Decide.{clashing}
 use Rattle.reasoning.specs.Emit.{Writable}
-use Rattle.reasoning.specs.Evidence.{impliesb, yesb, evidenceNumbers}
-use Rattle.reasoning.specs.Handed.{handedNumbers, Start, startNo, startBoth, startImplication, startAbsence}
+use Rattle.theory.specs.Evidence.{impliesb, yesb, evidenceNumbers}
+use Rattle.theory.specs.Handed.{handedNumbers, Start, startNo, startBoth, startImplication, startAbsence}
 use Rattle.reasoning.specs.Known.{Reaches}
 use Rattle.reasoning.specs.Layers.{Stored}
 use Rattle.reasoning.specs.Lent.{Passed, LentTable, PassedQuestion, Affirmed, Denied, Countered}
@@ -29,8 +29,8 @@ use Rattle.reasoning.specs.Words.{Decided}
 use Rattle.reasoning.specs.Writer.{wordFor, startOf}
 use Rattle.reasoning.proofs.CallLaws.{ask-refuses, ask-bars, ask-shows, ask-hands}
 use Rattle.reasoning.proofs.Calling.{taken, passed-sound, passed-table, valid-passed}
-use Rattle.reasoning.proofs.HandedQuestions.{begins-no}
-use Rattle.reasoning.proofs.HandedRows.{Begins}
+use Rattle.theory.proofs.HandedQuestions.{begins-no}
+use Rattle.theory.proofs.HandedRows.{Begins}
 use Rattle.reasoning.proofs.QuestionJoins.{askable-asked}
 use Rattle.reasoning.proofs.TableArrays.{arrays-parents, arrays-rules}
 use Rattle.reasoning.proofs.ValidFits.{table-fits}

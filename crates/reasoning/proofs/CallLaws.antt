@@ -32,9 +32,9 @@ use Rattle.reasoning.specs.Calls.{
   DecidesConsistency,
   AnswersQuestion,
 }
-use Rattle.reasoning.specs.Evidence.{consistentb, yesb, evidenceNumbers, inconsistentNumbers, Bounded}
-use Rattle.reasoning.specs.Handed.{Start, ReachWords, startConsistency, startNo, handedNumbers}
-use Rattle.reasoning.proofs.Agreeing.{numbers-agree}
+use Rattle.theory.specs.Evidence.{consistentb, yesb, evidenceNumbers, inconsistentNumbers, Bounded}
+use Rattle.theory.specs.Handed.{Start, ReachWords, startConsistency, startNo, handedNumbers}
+use Rattle.theory.proofs.Agreeing.{numbers-agree}
 use Rattle.reasoning.proofs.ConsistencyJoins.{
   consistency-invalid,
   consistency-agrees,
@@ -43,11 +43,11 @@ use Rattle.reasoning.proofs.ConsistencyJoins.{
   conflict-bounded,
   consistency-decides,
 }
-use Rattle.reasoning.proofs.HandedRows.{Begins}
-use Rattle.reasoning.proofs.HandedQuestions.{begins-no}
+use Rattle.theory.proofs.HandedRows.{Begins}
+use Rattle.theory.proofs.HandedQuestions.{begins-no}
 use Rattle.reasoning.proofs.Placed.{puts-answer}
 use Rattle.reasoning.proofs.QuestionJoins.{ask-invalid, ask-unasked, ask-yes, ask-no, askable-asked, yes-bounded, ask-answers}
-use Rattle.reasoning.proofs.Sizes.{numbers-few, bytes-few}
+use Rattle.theory.proofs.Sizes.{numbers-few, bytes-few}
 use Rattle.reasoning.proofs.TableArrays.{arrays-rules, arrays-parents, arrays-sound}
 use Rattle.reasoning.proofs.ValidFits.{table-fits, table-shallow, asked-in}
 

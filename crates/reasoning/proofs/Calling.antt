@@ -20,17 +20,17 @@ use Rattle.reasoning.specs.declared.question.Reply.{Reply}
 use Rattle.reasoning.specs.Arrays.{parentOf, ruleList, Parents, Sound}
 use Rattle.reasoning.specs.Calls.{askedOf, parentsOf, answerOf, DecidesConsistency}
 use Rattle.reasoning.specs.Emit.{Writable}
-use Rattle.reasoning.specs.Evidence.{consistentb, inconsistentNumbers}
-use Rattle.reasoning.specs.Decide.{clashing}
+use Rattle.theory.specs.Evidence.{consistentb, inconsistentNumbers}
+use Rattle.theory.specs.Decide.{clashing}
 use Rattle.reasoning.specs.Known.{Reaches, Known}
 use Rattle.reasoning.specs.Layers.{Stored}
 use Rattle.reasoning.specs.Words.{Decided}
-use Rattle.reasoning.specs.Handed.{handedNumbers, startConsistency}
+use Rattle.theory.specs.Handed.{handedNumbers, startConsistency}
 use Rattle.reasoning.specs.Lent.{Passed, LentTable, Witnessed, Conflicting}
 use Rattle.reasoning.specs.Writer.{wordFor, startOf}
 use Rattle.reasoning.proofs.CallLaws.{consistency-refuses, consistency-hands, consistency-shows, passes-sound}
 use Rattle.reasoning.proofs.ConsistencyJoins.{asked-begins}
-use Rattle.reasoning.proofs.HandedRows.{Begins}
+use Rattle.theory.proofs.HandedRows.{Begins}
 use Rattle.reasoning.proofs.TableArrays.{arrays-parents}
 use Rattle.reasoning.proofs.Writable.{table-words, writable}
 

@@ -13,8 +13,8 @@ use Rattle.files.specs.Table.{Rule}
 use Rattle.files.specs.Sets.{hasb, withPath, union, common}
 use Rattle.files.proofs.Collect.{rules-step}
 use Rattle.documents.specs.Paths.{contextOf}
-use Rattle.reasoning.specs.Least.{firstFrom, least, passing, someIn}
-use Rattle.reasoning.specs.Decide.{clashb, clashRule, clashing, pairb, pairRule, pairSide, reacher, rootb, rootRule}
+use Rattle.theory.specs.Least.{firstFrom, least, passing, someIn}
+use Rattle.theory.specs.Decide.{clashb, clashRule, clashing, pairb, pairRule, pairSide, reacher, rootb, rootRule}
 use Rattle.reasoning.specs.Arrays.{parentOf, ruleOf, ruleList}
 use Rattle.reasoning.specs.Known.{lookup, Placed, Known}
 use Rattle.reasoning.specs.Words.{

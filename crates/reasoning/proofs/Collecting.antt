@@ -13,11 +13,11 @@ use Rattle.files.specs.Table.{Rule}
 use Rattle.files.specs.Sets.{hasb, lowest, UpTo64}
 use Rattle.files.proofs.Stores.{sets-append}
 use Rattle.documents.specs.Paths.{contextOf}
-use Rattle.reasoning.specs.Walk.{DeadBy}
-use Rattle.reasoning.specs.Reachable.{Fits, reachb}
-use Rattle.reasoning.specs.Search.{writtenWalk}
-use Rattle.reasoning.specs.Decide.{clashRule, deadPath, deadRule, isDead, pairRule, pairSide, isPair}
-use Rattle.reasoning.specs.Evidence.{
+use Rattle.theory.specs.Walk.{DeadBy}
+use Rattle.theory.specs.Reachable.{Fits, reachb}
+use Rattle.theory.specs.Search.{writtenWalk}
+use Rattle.theory.specs.Decide.{clashRule, deadPath, deadRule, isDead, pairRule, pairSide, isPair}
+use Rattle.theory.specs.Evidence.{
   walkNumbers,
   firstSide,
   secondSide,
@@ -34,12 +34,12 @@ use Rattle.reasoning.specs.Arrays.{parentOf, ruleList, Sound}
 use Rattle.reasoning.specs.Layers.{clashNumbers, endNumbers, leastPairNumbers, Stored}
 use Rattle.reasoning.specs.Known.{lookup}
 use Rattle.reasoning.specs.Words.{Ready, directIn, clashesIn, deadIn, Decided}
-use Rattle.reasoning.proofs.Walks.{numbered-lt}
-use Rattle.reasoning.proofs.Reachable.{walk-in-table}
-use Rattle.reasoning.proofs.Decide.{isDead-iff, dead-least}
+use Rattle.theory.proofs.Walks.{numbered-lt}
+use Rattle.theory.proofs.Reachable.{walk-in-table}
+use Rattle.theory.proofs.Decide.{isDead-iff, dead-least}
 use Rattle.reasoning.proofs.Filling.{sound-fits}
 use Rattle.reasoning.proofs.WordJoins.{ruleIn, rules-length, numbered-in, rule-at, lookup-is, from-same, dead-same}
-use Rattle.reasoning.proofs.Evidence.{meets-in-table}
+use Rattle.theory.proofs.Evidence.{meets-in-table}
 
 -- ---- numbers one after the other
 

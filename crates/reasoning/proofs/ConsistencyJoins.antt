@@ -25,19 +25,19 @@ use Rattle.reasoning.specs.Calls.{
   BringsEvidence,
   DecidesConsistency,
 }
-use Rattle.reasoning.specs.Decide.{askedIn}
-use Rattle.reasoning.specs.Evidence.{consistentb, inconsistentNumbers, ShowsInconsistent, WritesInconsistent, Bounded}
-use Rattle.reasoning.specs.Follows.{Witnesses, Consistent}
-use Rattle.reasoning.specs.Handed.{startConsistency}
-use Rattle.reasoning.proofs.Answers.{consistent-some}
-use Rattle.reasoning.proofs.EvidenceSize.{inconsistent-bounded}
-use Rattle.reasoning.proofs.HandedRows.{Begins}
-use Rattle.reasoning.proofs.HandedDocuments.{begins-consistency, consistency-document}
+use Rattle.theory.specs.Decide.{askedIn}
+use Rattle.theory.specs.Evidence.{consistentb, inconsistentNumbers, ShowsInconsistent, WritesInconsistent, Bounded}
+use Rattle.theory.specs.Follows.{Witnesses, Consistent}
+use Rattle.theory.specs.Handed.{startConsistency}
+use Rattle.theory.proofs.Answers.{consistent-some}
+use Rattle.theory.proofs.EvidenceSize.{inconsistent-bounded}
+use Rattle.theory.proofs.HandedRows.{Begins}
+use Rattle.theory.proofs.HandedDocuments.{begins-consistency, consistency-document}
 use Rattle.reasoning.proofs.Placed.{Placed, fills, tooLong, placed-at}
 use Rattle.reasoning.proofs.ReadBack.{hands-back, document-room, bounded-bytes}
-use Rattle.reasoning.proofs.Shows.{inconsistent-shows}
+use Rattle.theory.proofs.Shows.{inconsistent-shows}
 use Rattle.reasoning.proofs.ValidFits.{table-fits, table-shallow, required-in, required-inner, asked-is, asked-in}
-use Rattle.reasoning.proofs.Writes.{inconsistent-written}
+use Rattle.theory.proofs.Writes.{inconsistent-written}
 
 -- whether the rules of a table are computed to be consistent with its required paths
 abbrev agreesb : Rules → Bool

@@ -13,8 +13,8 @@ use Rattle.files.proofs.Stores.{sets-append}
 use Rattle.files.proofs.SetBits.{has-under}
 use Rattle.files.proofs.SetLowest.{has-lowest, without-lowest-less}
 use Rattle.files.proofs.SetMembers.{members-take, members-of-zero}
-use Rattle.reasoning.specs.Reachable.{subtree}
-use Rattle.reasoning.specs.Handed.{eachOf, onlyIf, childPaths}
+use Rattle.theory.specs.Reachable.{subtree}
+use Rattle.theory.specs.Handed.{eachOf, onlyIf, childPaths}
 use Rattle.reasoning.specs.Emit.{sizeOf, storing, Room, Emitted, numberIn, oneNumber, wholeNumber, kidsUnder, kidsIn}
 
 -- ---- what is emitted, and what remains

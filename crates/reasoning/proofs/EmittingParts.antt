@@ -9,8 +9,8 @@ use lib.ListN.{length, getD, length-append}
 use Rattle.files.specs.Sets.{bit, hasb, common, lowest, withoutLowest, size, members}
 use Rattle.files.proofs.SetBits.{hasb-true, hasb-false}
 use Rattle.files.proofs.SetMembers.{size-le, size-members, size-without-lowest}
-use Rattle.reasoning.specs.Reachable.{subtree}
-use Rattle.reasoning.specs.Handed.{Start, eachOf, onlyIf, allKids, oneKids, layer, layersFrom, pathOrder, childPaths}
+use Rattle.theory.specs.Reachable.{subtree}
+use Rattle.theory.specs.Handed.{Start, eachOf, onlyIf, allKids, oneKids, layer, layersFrom, pathOrder, childPaths}
 use Rattle.reasoning.specs.Writer.{startOf}
 use Rattle.reasoning.specs.Emit.{
   Room,
@@ -24,7 +24,7 @@ use Rattle.reasoning.specs.Emit.{
   wholePartIn,
   partsNumbers,
 }
-use Rattle.reasoning.proofs.Sizes.{each-append}
+use Rattle.theory.proofs.Sizes.{each-append}
 use Rattle.reasoning.proofs.Emitting.{
   Left,
   left-start,

@@ -14,12 +14,12 @@ use Rattle.files.proofs.Tables.{rules-length}
 use Rattle.files.proofs.SetBits.{same-sets, not-has, bit-of-zero, hasb-true, hasb-false, hasb-has, hasb-absent, bit-absent}
 use Rattle.documents.specs.Paths.{Below, same, up, StrictlyBelow, Descending, depthOf}
 use Rattle.documents.proofs.Paths.{below-le, below-dec, below-strictly, below-comparable, depth-root, depth-child, depth-strictly}
-use Rattle.reasoning.specs.Walk.{Reach, climb}
-use Rattle.reasoning.specs.Reachable.{Fits, subtree, alone, reachable}
+use Rattle.theory.specs.Walk.{Reach, climb}
+use Rattle.theory.specs.Reachable.{Fits, subtree, alone, reachable}
 use Rattle.reasoning.specs.Arrays.{parentOf, ruleList, Parents, Sound, settled}
 use Rattle.reasoning.specs.Known.{DepthsIn, lookup, reached, Word, empty, full, Filled, Filling, Reaches}
-use Rattle.reasoning.proofs.Walks.{reach-refl, reach-trans, reach-step, reach-start, reach-end}
-use Rattle.reasoning.proofs.Reachable.{subtree-iff, reachable-iff, reachable-small}
+use Rattle.theory.proofs.Walks.{reach-refl, reach-trans, reach-step, reach-start, reach-end}
+use Rattle.theory.proofs.Reachable.{subtree-iff, reachable-iff, reachable-small}
 
 -- ---- depths
 

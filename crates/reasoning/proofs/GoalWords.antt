@@ -14,10 +14,10 @@ use Rattle.files.specs.Sets.{hasb, withPath, withoutPath, union, common, differ
 use Rattle.files.proofs.Padded.{padded-get, padded-none, padded-store}
 use Rattle.files.proofs.SetLowest.{lowest-lt, without-lowest-less}
 use Rattle.documents.specs.Paths.{climbUnder, towards}
-use Rattle.reasoning.specs.Reachable.{subtree}
-use Rattle.reasoning.specs.Least.{someIn}
+use Rattle.theory.specs.Reachable.{subtree}
+use Rattle.theory.specs.Least.{someIn}
 use Rattle.reasoning.specs.Known.{lookup, Placed}
-use Rattle.reasoning.specs.Handed.{
+use Rattle.theory.specs.Handed.{
   Start,
   highest,
   gather,
@@ -37,7 +37,7 @@ use Rattle.reasoning.specs.Handed.{
   goalRows,
 }
 use Rattle.reasoning.specs.Writer.{wordFor, Tabled, startOf, chainOf, rootOf, goalsHere}
-use Rattle.reasoning.proofs.HandedLoops.{gather-end, gather-step}
+use Rattle.theory.proofs.HandedLoops.{gather-end, gather-step}
 
 -- ---- reachable words of the table's paths
 

@@ -24,7 +24,7 @@ use Rattle.reasoning.specs.Calls.{
   DecidesConsistency,
   AnswersQuestion,
 }
-use Rattle.reasoning.specs.Follows.{Consistent}
+use Rattle.theory.specs.Follows.{Consistent}
 use Rattle.reasoning.proofs.ConsistencyJoins.{ConsistencyCase, consistency-case}
 use Rattle.reasoning.proofs.QuestionJoins.{QuestionCase, ask-case, breaks-follows}
 

@@ -15,8 +15,8 @@ use Rattle.files.proofs.SetMembers.{size-le, size-without-lowest, members-take,
 use Rattle.documents.specs.Paths.{depthOf}
 use Rattle.reasoning.specs.Arrays.{parentOf}
 use Rattle.reasoning.specs.Known.{DepthsIn}
-use Rattle.reasoning.specs.Least.{passing}
-use Rattle.reasoning.specs.Handed.{layer, layersFrom, pathOrder, childPaths, partsOn}
+use Rattle.theory.specs.Least.{passing}
+use Rattle.theory.specs.Handed.{layer, layersFrom, pathOrder, childPaths, partsOn}
 use Rattle.reasoning.specs.Emit.{withIf, layerIn, partsIn, placed}
 use Rattle.reasoning.proofs.Emitting.{set-laws}
 use Rattle.reasoning.proofs.EmittingParts.{layers-step, layers-none}

@@ -33,15 +33,15 @@ use Rattle.reasoning.specs.Calls.{
   questionOf,
   AnswersQuestion,
 }
-use Rattle.reasoning.specs.Evidence.{yesb, evidenceNumbers, Shows, Bounded}
-use Rattle.reasoning.proofs.Answers.{implies-every, excludes-every, together-every}
-use Rattle.reasoning.proofs.EvidenceSize.{evidence-bounded}
-use Rattle.reasoning.proofs.HandedQuestions.{begins-no, question-document}
+use Rattle.theory.specs.Evidence.{yesb, evidenceNumbers, Shows, Bounded}
+use Rattle.theory.proofs.Answers.{implies-every, excludes-every, together-every}
+use Rattle.theory.proofs.EvidenceSize.{evidence-bounded}
+use Rattle.theory.proofs.HandedQuestions.{begins-no, question-document}
 use Rattle.reasoning.proofs.Placed.{Placed, fills, tooLong, placed-at}
 use Rattle.reasoning.proofs.ReadBack.{hands-back, document-room, bounded-bytes}
-use Rattle.reasoning.proofs.Shows.{yes-shows}
+use Rattle.theory.proofs.Shows.{yes-shows}
 use Rattle.reasoning.proofs.ValidFits.{table-fits, table-shallow}
-use Rattle.reasoning.proofs.Writes.{evidence-written}
+use Rattle.theory.proofs.Writes.{evidence-written}
 
 -- whether a question to a table is computed to be answered yes
 abbrev saysYes : Rules → (kind p q : ℕ) → Bool

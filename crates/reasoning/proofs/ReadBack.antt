@@ -13,12 +13,12 @@ use Rattle.documents.specs.PartList.{StandsFor}
 use Rattle.documents.proofs.ValidLists.{valid-read}
 use Rattle.documents.proofs.CheckingJoins.{few-paths, below-64}
 use Rattle.reasoning.specs.Calls.{parentsOf, ruleListOf, documentBytes, HandsBack}
-use Rattle.reasoning.specs.Evidence.{Bounded}
-use Rattle.reasoning.specs.Handed.{Start, handedEntries, handedNumbers}
-use Rattle.reasoning.specs.Reachable.{reachable}
-use Rattle.reasoning.proofs.HandedRows.{Begins}
-use Rattle.reasoning.proofs.HandedDocuments.{document-tree, document-bytes, document-part-list}
-use Rattle.reasoning.proofs.Sizes.{numbers-bytes}
+use Rattle.theory.specs.Evidence.{Bounded}
+use Rattle.theory.specs.Handed.{Start, handedEntries, handedNumbers}
+use Rattle.theory.specs.Reachable.{reachable}
+use Rattle.theory.proofs.HandedRows.{Begins}
+use Rattle.theory.proofs.HandedDocuments.{document-tree, document-bytes, document-part-list}
+use Rattle.theory.proofs.Sizes.{numbers-bytes}
 use Rattle.reasoning.proofs.ValidFits.{table-fits, table-shallow}
 
 module _ (t : Rules) (v : ValidTable t) {goals : List ℕ} {start : Start} (begins : Begins (parentsOf t) (t .paths) goals start) where

@@ -13,10 +13,10 @@ use Rattle.files.specs.Rules.{rulesFrom}
 use Rattle.files.specs.Table.{Rule}
 use Rattle.files.specs.Sets.{hasb}
 use Rattle.files.proofs.Collect.{rules-step}
-use Rattle.reasoning.specs.Parts.{RulesIn}
-use Rattle.reasoning.specs.Reachable.{backward, goesAlong, goesAgainst, subtree, alone, oneStep}
-use Rattle.reasoning.specs.Search.{Move, ruleMove, leastMove, forward, seek, writtenWalk}
-use Rattle.reasoning.specs.Evidence.{walkNumbers}
+use Rattle.theory.specs.Parts.{RulesIn}
+use Rattle.theory.specs.Reachable.{backward, goesAlong, goesAgainst, subtree, alone, oneStep}
+use Rattle.theory.specs.Search.{Move, ruleMove, leastMove, forward, seek, writtenWalk}
+use Rattle.theory.specs.Evidence.{walkNumbers}
 use Rattle.reasoning.specs.Arrays.{parentOf, ruleOf, ruleList, wayOf, Sound}
 use Rattle.reasoning.specs.Layers.{pickTurn, turnOf, MoveIs, nearerOf, Sought, Stored}
 use Rattle.reasoning.proofs.WordJoins.{ruleIn, numbered-in}

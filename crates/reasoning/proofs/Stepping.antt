@@ -15,7 +15,7 @@ use Rattle.files.specs.Sets.{hasb, withPath}
 use Rattle.files.proofs.Collect.{rules-step}
 use Rattle.documents.specs.Paths.{Below, up, Descending, Context, contextOf}
 use Rattle.documents.proofs.Paths.{below-step, below-le, parent-le, contextOf-context, context-is, contextOf-self, contextOf-sym}
-use Rattle.reasoning.specs.Reachable.{
+use Rattle.theory.specs.Reachable.{
   Way,
   onward,
   backward,
@@ -36,7 +36,7 @@ use Rattle.reasoning.specs.Reachable.{
   alone,
 }
 use Rattle.reasoning.specs.Arrays.{parentOf, ruleOf, ruleList, joinChild, wayOf, climbed, settled}
-use Rattle.reasoning.proofs.OneStep.{rules-join, climbs-join}
+use Rattle.theory.proofs.OneStep.{rules-join, climbs-join}
 
 -- ---- parents and contexts
 

@@ -15,13 +15,13 @@ use Rattle.documents.proofs.Paths.{below-le}
 use Rattle.documents.proofs.CheckingJoins.{few-paths, descending}
 use Rattle.reasoning.specs.Arrays.{parentOf, ruleList, Sound}
 use Rattle.reasoning.specs.Calls.{parentsOf, ruleListOf}
-use Rattle.reasoning.specs.Handed.{ReachWords}
+use Rattle.theory.specs.Handed.{ReachWords}
 use Rattle.reasoning.specs.Known.{lookup, reached, Reaches}
-use Rattle.reasoning.specs.Parts.{RulesIn}
-use Rattle.reasoning.specs.Reachable.{reachable}
-use Rattle.reasoning.specs.Walk.{Reach}
+use Rattle.theory.specs.Parts.{RulesIn}
+use Rattle.theory.specs.Reachable.{reachable}
+use Rattle.theory.specs.Walk.{Reach}
 use Rattle.reasoning.proofs.Filling.{sound-fits}
-use Rattle.reasoning.proofs.HandedDocuments.{reachable-words}
+use Rattle.theory.proofs.HandedDocuments.{reachable-words}
 use Rattle.reasoning.proofs.ValidFits.{table-fits, table-shallow}
 
 -- words that agree with those looked up are words of the reachable sets

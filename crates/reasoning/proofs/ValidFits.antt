@@ -13,10 +13,10 @@ use Rattle.documents.specs.Paths.{depthOf}
 use Rattle.documents.proofs.Paths.{depth-root, depth-child}
 use Rattle.documents.proofs.CheckingJoins.{count-is, few-paths, descending}
 use Rattle.reasoning.specs.Calls.{parentsOf, ruleListOf, askedOf}
-use Rattle.reasoning.specs.Decide.{askedIn}
-use Rattle.reasoning.specs.Reachable.{Fits}
-use Rattle.reasoning.specs.Required.{Needed}
-use Rattle.reasoning.proofs.RootPair.{askedIn-iff, askedIn-members}
+use Rattle.theory.specs.Decide.{askedIn}
+use Rattle.theory.specs.Reachable.{Fits}
+use Rattle.theory.specs.Required.{Needed}
+use Rattle.theory.proofs.RootPair.{askedIn-iff, askedIn-members}
 
 module _ (t : Rules) (v : ValidTable t) where
   -- its parents descend, and its rules are few and in the table

@@ -17,9 +17,9 @@ use Rattle.files.proofs.SetBits.{same-sets, has-with, with-lt, not-has, bit-of-
 use Rattle.files.proofs.Tables.{rules-length as all-length}
 use Rattle.documents.specs.Paths.{Below, belowb, contextOf}
 use Rattle.documents.proofs.Paths.{below-le, belowb-iff, contextOf-context}
-use Rattle.reasoning.specs.Reachable.{reachable, reachb}
-use Rattle.reasoning.specs.Least.{least, passing, someIn}
-use Rattle.reasoning.specs.Decide.{
+use Rattle.theory.specs.Reachable.{reachable, reachb}
+use Rattle.theory.specs.Least.{least, passing, someIn}
+use Rattle.theory.specs.Decide.{
   ruleAt,
   bothFrom,
   clashb,
@@ -57,10 +57,10 @@ use Rattle.reasoning.specs.Words.{
   pairTest,
   reacherTest,
 }
-use Rattle.reasoning.proofs.Walks.{numbered-lt, numbered-unique, reach-refl, reach-start}
-use Rattle.reasoning.proofs.Reachable.{T-hasb, reachable-iff}
-use Rattle.reasoning.proofs.Least.{least-passes, least-some, passing-iff, passing-small}
-use Rattle.reasoning.proofs.Decide.{ruleAt-numbered}
+use Rattle.theory.proofs.Walks.{numbered-lt, numbered-unique, reach-refl, reach-start}
+use Rattle.theory.proofs.Reachable.{T-hasb, reachable-iff}
+use Rattle.theory.proofs.Least.{least-passes, least-some, passing-iff, passing-small}
+use Rattle.theory.proofs.Decide.{ruleAt-numbered}
 use Rattle.reasoning.proofs.Filling.{sound-fits, reached-small, depth-some}
 
 -- two tests that pass together are equal

@@ -10,19 +10,19 @@ use borrow.Author.Tests.{ltb-true}
 use Rattle.files.specs.Sets.{Has}
 use Rattle.documents.specs.Paths.{Below}
 use Rattle.documents.proofs.Paths.{below-le}
-use Rattle.reasoning.specs.Reachable.{reachable}
-use Rattle.reasoning.specs.Walk.{Reach}
+use Rattle.theory.specs.Reachable.{reachable}
+use Rattle.theory.specs.Walk.{Reach}
 use Rattle.reasoning.specs.Arrays.{parentOf, ruleList}
 use Rattle.reasoning.specs.Known.{lookup, reached, Known}
-use Rattle.reasoning.specs.Handed.{ReachWords}
+use Rattle.theory.specs.Handed.{ReachWords}
 use Rattle.reasoning.specs.Writer.{wordFor, inTable, Tabled, startOf}
 use Rattle.reasoning.specs.Emit.{Writable}
 use Rattle.reasoning.proofs.Filling.{sound-fits, depth-some}
 use Rattle.reasoning.proofs.GoalWords.{word-in}
-use Rattle.reasoning.proofs.HandedRows.{Begins}
-use Rattle.reasoning.proofs.HandedNamed.{top-small}
-use Rattle.reasoning.proofs.HandedDocuments.{reachable-words}
-use Rattle.reasoning.proofs.Sizes.{numbers-few, bytes-few}
+use Rattle.theory.proofs.HandedRows.{Begins}
+use Rattle.theory.proofs.HandedNamed.{top-small}
+use Rattle.theory.proofs.HandedDocuments.{reachable-words}
+use Rattle.theory.proofs.Sizes.{numbers-few, bytes-few}
 
 module _ (parent kind left right : List ℕ) (count many : ℕ) (depth table : List ℕ) (known : Known parent kind left right count many depth table) where
   -- of the table's paths the words are the reachable sets

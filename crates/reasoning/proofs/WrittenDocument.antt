@@ -20,9 +20,9 @@ use Rattle.files.proofs.SetMembers.{size-members}
 use Rattle.files.proofs.Stores.{puts-none, puts-all}
 use Rattle.documents.specs.Paths.{Descending, depthOf}
 use Rattle.documents.specs.PartList.{Entry, partNumbers, documentNumbers}
-use Rattle.reasoning.specs.Reachable.{subtree}
-use Rattle.reasoning.specs.Order.{Sorted}
-use Rattle.reasoning.specs.Handed.{
+use Rattle.theory.specs.Reachable.{subtree}
+use Rattle.theory.specs.Order.{Sorted}
+use Rattle.theory.specs.Handed.{
   Start,
   eachOf,
   onlyIf,
@@ -63,7 +63,7 @@ use Rattle.reasoning.specs.Writer.{wordFor, startOf, chainOf}
 use Rattle.reasoning.proofs.GoalWords.{chain-same}
 use Rattle.reasoning.proofs.Emitting.{room-first, room-second, emitted-both}
 use Rattle.reasoning.proofs.EmittingParts.{only-bit}
-use Rattle.reasoning.proofs.HandedOrder.{Earlier, shallower, beside, order-sorted, order-mem, order-in-table, child-mem}
+use Rattle.theory.proofs.HandedOrder.{Earlier, shallower, beside, order-sorted, order-mem, order-in-table, child-mem}
 
 -- ---- the first part on each path
 

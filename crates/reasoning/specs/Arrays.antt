@@ -7,8 +7,8 @@ use Rattle.files.specs.Table.{Rule}
 use Rattle.files.specs.Rules.{rulesFrom}
 use Rattle.files.specs.Sets.{hasb, withPath}
 use Rattle.documents.specs.Paths.{Descending, depthOf}
-use Rattle.reasoning.specs.Parts.{RulesIn}
-use Rattle.reasoning.specs.Reachable.{Way, onward, backward, carry, oneStep, settle}
+use Rattle.theory.specs.Parts.{RulesIn}
+use Rattle.theory.specs.Reachable.{Way, onward, backward, carry, oneStep, settle}
 
 -- the parent of a path, as an array has it
 unfoldable pub parentOf : List ℕ → ℕ → ℕ

@@ -20,10 +20,10 @@ use Rattle.documents.specs.Obey.{ObeysRule, Obeys}
 use Rattle.documents.specs.PartList.{Entry, documentFile, StandsFor}
 use Rattle.reasoning.specs.declared.consistency.Verdict.{Verdict}
 use Rattle.reasoning.specs.declared.question.Reply.{Reply}
-use Rattle.reasoning.specs.Reachable.{reachable}
-use Rattle.reasoning.specs.Evidence.{yesb, consistentb, evidenceNumbers, inconsistentNumbers, Shows, ShowsInconsistent}
-use Rattle.reasoning.specs.Follows.{Witnesses, Consistent}
-use Rattle.reasoning.specs.Handed.{Start, startConsistency, startNo, handedNumbers}
+use Rattle.theory.specs.Reachable.{reachable}
+use Rattle.theory.specs.Evidence.{yesb, consistentb, evidenceNumbers, inconsistentNumbers, Shows, ShowsInconsistent}
+use Rattle.theory.specs.Follows.{Witnesses, Consistent}
+use Rattle.theory.specs.Handed.{Start, startConsistency, startNo, handedNumbers}
 
 -- the parents, the rules and the required paths of a table, and the set of the required paths with the root
 abbrev pub parentsOf : Rules → ℕ → ℕ

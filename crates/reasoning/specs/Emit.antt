@@ -10,12 +10,12 @@ use lib.Seq.{sets}
 use Rattle.files.specs.Number.{bytesOfAll}
 use Rattle.files.specs.Writing.{wrapped}
 use Rattle.files.specs.Sets.{bit, hasb, withPath, common, sizeBelow, members}
-use Rattle.reasoning.specs.Reachable.{subtree}
-use Rattle.reasoning.specs.Least.{passing}
+use Rattle.theory.specs.Reachable.{subtree}
+use Rattle.theory.specs.Least.{passing}
 use Rattle.reasoning.specs.Arrays.{parentOf, Parents}
 use Rattle.reasoning.specs.Known.{DepthsIn}
 use Rattle.reasoning.specs.Writer.{wordFor, Tabled, startOf}
-use Rattle.reasoning.specs.Handed.{Start, eachOf, onlyIf, allKids, oneKids, partsOn, childPaths, handedNumbers}
+use Rattle.theory.specs.Handed.{Start, eachOf, onlyIf, allKids, oneKids, partsOn, childPaths, handedNumbers}
 
 -- how many bytes numbers take, each modulo the limit
 unfoldable pub sizeOf : List ℕ → ℕ

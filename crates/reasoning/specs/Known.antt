@@ -7,7 +7,7 @@ use mathlib.Core.List.{List}
 use lib.ListN.{length, getD}
 use Rattle.files.specs.Sets.{hasb}
 use Rattle.documents.specs.Paths.{Below, depthOf}
-use Rattle.reasoning.specs.Reachable.{subtree, reachable}
+use Rattle.theory.specs.Reachable.{subtree, reachable}
 use Rattle.reasoning.specs.Arrays.{parentOf, ruleList, Sound}
 
 -- the array has the depths of the paths below n

@@ -8,11 +8,11 @@ use lib.ListN.{length, getD}
 use lib.Seq.{sets}
 use Rattle.files.specs.Table.{Rule}
 use Rattle.files.specs.Sets.{hasb}
-use Rattle.reasoning.specs.Reachable.{goesAlong, goesAgainst}
+use Rattle.theory.specs.Reachable.{goesAlong, goesAgainst}
 use Rattle.documents.specs.Paths.{contextOf}
-use Rattle.reasoning.specs.Search.{Move, forward, seek, writtenWalk}
-use Rattle.reasoning.specs.Decide.{ruleAt, pairRule, pairSide}
-use Rattle.reasoning.specs.Evidence.{walkNumbers, firstSide, secondSide, pairNumbers}
+use Rattle.theory.specs.Search.{Move, forward, seek, writtenWalk}
+use Rattle.theory.specs.Decide.{ruleAt, pairRule, pairSide}
+use Rattle.theory.specs.Evidence.{walkNumbers, firstSide, secondSide, pairNumbers}
 use Rattle.reasoning.specs.Arrays.{parentOf, ruleList}
 
 -- 1 if the first test passes, 2 if only the second does, else 0

@@ -8,9 +8,9 @@ use Rattle.files.specs.Rules.{parentsIn}
 use Rattle.files.specs.Writing.{tablePasses}
 use Rattle.reasoning.specs.Arrays.{parentOf, ruleList}
 use Rattle.reasoning.specs.Calls.{askedOf, askable}
-use Rattle.reasoning.specs.Decide.{clashing}
-use Rattle.reasoning.specs.Evidence.{consistentb, yesb}
-use Rattle.reasoning.specs.Handed.{startNo}
+use Rattle.theory.specs.Decide.{clashing}
+use Rattle.theory.specs.Evidence.{consistentb, yesb}
+use Rattle.theory.specs.Handed.{startNo}
 use Rattle.reasoning.specs.Writer.{startOf}
 use Rattle.reasoning.specs.Known.{Known}
 

@@ -7,9 +7,9 @@ use lib.Dec.{eqb}
 use Rattle.files.specs.Table.{Rule}
 use Rattle.files.specs.Sets.{hasb, withPath, union, common}
 use Rattle.documents.specs.Paths.{contextOf}
-use Rattle.reasoning.specs.Least.{passing, someIn}
-use Rattle.reasoning.specs.Decide.{clashing, pairb, reacher}
-use Rattle.reasoning.specs.Reachable.{reachb}
+use Rattle.theory.specs.Least.{passing, someIn}
+use Rattle.theory.specs.Decide.{clashing, pairb, reacher}
+use Rattle.theory.specs.Reachable.{reachb}
 use Rattle.reasoning.specs.Arrays.{parentOf, ruleList, Parents, Sound}
 use Rattle.reasoning.specs.Known.{DepthsIn, lookup, Known}
 

@@ -5,9 +5,9 @@ use mathlib.Core.List.{List}
 use lib.Dec.{ltb, eqb}
 use lib.ListN.{getD}
 use Rattle.files.specs.Sets.{common}
-use Rattle.reasoning.specs.Reachable.{subtree}
+use Rattle.theory.specs.Reachable.{subtree}
 use Rattle.reasoning.specs.Known.{lookup}
-use Rattle.reasoning.specs.Handed.{Start, severalb, climbAll}
+use Rattle.theory.specs.Handed.{Start, severalb, climbAll}
 
 -- the word for x inside c, of paths of the table; none for a number past it
 unfoldable pub wordFor : (depth table : List ℕ) (count c x : ℕ) → ℕ

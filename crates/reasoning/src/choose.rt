@@ -1,8 +1,8 @@
 // Dead paths, pairs and the root pair, from the words of the table.
 ghost use Prim.Native.Nat.{ℕ, _≤_, _<_};
 ghost use mathlib.Core.Path.{_≡_};
-ghost use Rattle.reasoning.specs.Decide.{clashRule, clashing, pairRule, pairSide, reacher, rootRule};
-ghost use Rattle.reasoning.specs.Least.{passing};
+ghost use Rattle.theory.specs.Decide.{clashRule, clashing, pairRule, pairSide, reacher, rootRule};
+ghost use Rattle.theory.specs.Least.{passing};
 ghost use Rattle.reasoning.specs.Arrays.{parentOf, ruleOf, ruleList, Parents};
 ghost use Rattle.reasoning.specs.Known.{DepthsIn, Placed, Known};
 ghost use Rattle.reasoning.specs.Words.{Ready, bothIn, joinIf, joinPassing, clashIn, clashBy, clashesIn, deadIn, sidesIn, straightIn, pairIn, askedIn, joinAsked, fromAsked, rootIn};

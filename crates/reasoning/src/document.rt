@@ -5,7 +5,7 @@ ghost use Rattle.files.specs.Number.{bytesOfAll};
 ghost use Rattle.files.specs.Sets.{members};
 ghost use Rattle.files.specs.Writing.{put, wrapped, Puts};
 ghost use Rattle.reasoning.specs.Arrays.{parentOf, Parents};
-ghost use Rattle.reasoning.specs.Handed.{eachOf, pathOrder, handedNumbers};
+ghost use Rattle.theory.specs.Handed.{eachOf, pathOrder, handedNumbers};
 ghost use Rattle.reasoning.specs.Writer.{wordFor, Tabled, startOf};
 ghost use Rattle.reasoning.specs.Emit.{Room, Emitted, Ready, Writable, onePartIn, wholePartIn, partsNumbers};
 use crate::emit::emit;

@@ -5,7 +5,7 @@ ghost use mathlib.Core.List.{[], _∷_};
 ghost use lib.ListN.{length};
 ghost use Rattle.files.specs.Sets.{members};
 ghost use Rattle.reasoning.specs.Arrays.{parentOf, Parents};
-ghost use Rattle.reasoning.specs.Handed.{eachOf};
+ghost use Rattle.theory.specs.Handed.{eachOf};
 ghost use Rattle.reasoning.specs.Emit.{Room, Emitted, oneNumber, wholeNumber, kidsUnder, kidsIn, partIn};
 use crate::numbering::bit_of;
 use crate::numbering::child_paths;

@@ -4,7 +4,7 @@ ghost use mathlib.Core.Path.{_≡_};
 ghost use Rattle.files.specs.Rules.{padded};
 ghost use Rattle.documents.specs.Paths.{Descending, towards};
 ghost use Rattle.reasoning.specs.Arrays.{parentOf, Parents};
-ghost use Rattle.reasoning.specs.Handed.{highest, gather, coverEach, fillWord, kidWord, oneKids, climbAll, severalb, allKids, kidsAt, goalRows};
+ghost use Rattle.theory.specs.Handed.{highest, gather, coverEach, fillWord, kidWord, oneKids, climbAll, severalb, allKids, kidsAt, goalRows};
 ghost use Rattle.reasoning.specs.Writer.{wordFor, Tabled, startOf, chainOf, rootOf, goalsHere};
 use crate::reach::reach;
 use crate::steps::parent_of;

@@ -5,7 +5,7 @@ ghost use lib.ListN.{getD};
 ghost use Rattle.files.specs.Sets.{bit, members};
 ghost use Rattle.reasoning.specs.Arrays.{parentOf, Parents};
 ghost use Rattle.reasoning.specs.Known.{DepthsIn};
-ghost use Rattle.reasoning.specs.Handed.{partsOn, childPaths, pathOrder};
+ghost use Rattle.theory.specs.Handed.{partsOn, childPaths, pathOrder};
 ghost use Rattle.reasoning.specs.Emit.{withIf, layerIn, partsIn, placed, numberIn};
 use crate::steps::parent_of;
 use crate::steps::wide;

@@ -3,7 +3,7 @@ ghost use Prim.Native.Nat.{ℕ, _≤_, _<_};
 ghost use mathlib.Core.Path.{_≡_};
 ghost use mathlib.Core.Bool.{true};
 ghost use Rattle.documents.specs.Paths.{Descending, contextOf};
-ghost use Rattle.reasoning.specs.Reachable.{onward, subtree, carry, byRule, byRules, byClimbs, oneStep, alone};
+ghost use Rattle.theory.specs.Reachable.{onward, subtree, carry, byRule, byRules, byClimbs, oneStep, alone};
 ghost use Rattle.reasoning.specs.Arrays.{parentOf, ruleOf, ruleList, joinChild, climbed, wayOf, settled, Sound};
 use files::sets;
 

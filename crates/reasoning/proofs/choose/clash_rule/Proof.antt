@@ -8,8 +8,8 @@ use borrow.Author.Needs.{needs}
 use Prim.Native.Nat.{_-_, _≤_}
 use mathlib.Core.Path.{_≡_}
 use Rattle.reasoning.specs.Arrays.{parentOf, ruleList}
-use Rattle.reasoning.specs.Decide.{clashb, clashRule}
-use Rattle.reasoning.specs.Least.{firstFrom}
+use Rattle.theory.specs.Decide.{clashb, clashRule}
+use Rattle.theory.specs.Least.{firstFrom}
 use Rattle.reasoning.proofs.Choosing.{placed-laws, first-found, rule-laws}
 
 abbrev Inv-loop : tie.InvT-loop

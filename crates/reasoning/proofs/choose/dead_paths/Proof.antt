@@ -7,7 +7,7 @@ use Rattle.reasoning.proofs.choose.join_if.Reads as join-if-reads
 use borrow.Author.Needs.{needs}
 use Prim.Native.Nat.{_-_, _≤_}
 use mathlib.Core.Path.{_≡_}
-use Rattle.reasoning.specs.Least.{passing}
+use Rattle.theory.specs.Least.{passing}
 use Rattle.reasoning.specs.Words.{deadIn}
 use Rattle.reasoning.proofs.Choosing.{placed-laws, set-on, set-laws}
 

@@ -8,8 +8,8 @@ use borrow.Author.Needs.{needs}
 use Prim.Native.Nat.{_-_, _≤_}
 use mathlib.Core.Path.{_≡_}
 use Rattle.reasoning.specs.Arrays.{parentOf, ruleList}
-use Rattle.reasoning.specs.Decide.{pairRule}
-use Rattle.reasoning.specs.Least.{firstFrom}
+use Rattle.theory.specs.Decide.{pairRule}
+use Rattle.theory.specs.Least.{firstFrom}
 use Rattle.reasoning.specs.Words.{pairTest}
 use Rattle.reasoning.proofs.Choosing.{placed-laws, first-found, pair-rule-laws}
 

@@ -6,7 +6,7 @@ use Prim.Native.Nat.{_-_, _≤_}
 use mathlib.Core.Path.{_≡_}
 use lib.ListN.{length}
 use Rattle.reasoning.specs.Arrays.{parentOf}
-use Rattle.reasoning.specs.Handed.{eachOf, layersFrom, pathOrder}
+use Rattle.theory.specs.Handed.{eachOf, layersFrom, pathOrder}
 use Rattle.reasoning.specs.Writer.{wordFor, startOf}
 use Rattle.reasoning.specs.Emit.{partsNumbers}
 use Rattle.reasoning.proofs.Emitting.{Left}

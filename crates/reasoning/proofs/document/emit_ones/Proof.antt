@@ -7,7 +7,7 @@ use mathlib.Core.Path.{_≡_}
 use lib.ListN.{length}
 use Rattle.files.specs.Sets.{members}
 use Rattle.reasoning.specs.Arrays.{parentOf}
-use Rattle.reasoning.specs.Handed.{eachOf}
+use Rattle.theory.specs.Handed.{eachOf}
 use Rattle.reasoning.specs.Writer.{wordFor}
 use Rattle.reasoning.specs.Emit.{onePartIn}
 use Rattle.reasoning.proofs.Emitting.{Left}

@@ -8,7 +8,7 @@ use mathlib.Core.List.{[]}
 use lib.ListN.{length}
 use Rattle.files.specs.Sets.{size, members}
 use Rattle.reasoning.specs.Arrays.{parentOf}
-use Rattle.reasoning.specs.Handed.{eachOf}
+use Rattle.theory.specs.Handed.{eachOf}
 use Rattle.reasoning.specs.Emit.{kidsUnder, kidsIn}
 use Rattle.reasoning.proofs.EmittingParts.{many-laws}
 

@@ -6,7 +6,7 @@ use Prim.Native.Nat.{_^_, _<_}
 use mathlib.Core.Path.{_≡_}
 use lib.ListN.{length}
 use Rattle.files.specs.Sets.{members}
-use Rattle.reasoning.specs.Handed.{eachOf}
+use Rattle.theory.specs.Handed.{eachOf}
 use Rattle.reasoning.specs.Emit.{oneNumber}
 use Rattle.reasoning.proofs.Emitting.{Left, goal-laws}
 

@@ -4,7 +4,7 @@ use Rattle.reasoning.proofs.goals.at_or_above.Tie as tie
 use borrow.Author.Needs.{needs}
 use Prim.Native.Nat.{_≤_}
 use mathlib.Core.Path.{_≡_}
-use Rattle.reasoning.specs.Handed.{climbAll}
+use Rattle.theory.specs.Handed.{climbAll}
 use Rattle.reasoning.specs.Arrays.{parentOf}
 use Rattle.reasoning.proofs.GoalWords.{above-laws}
 

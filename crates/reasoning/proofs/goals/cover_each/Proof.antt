@@ -6,7 +6,7 @@ use Prim.Native.Nat.{_^_, _<_}
 use mathlib.Core.Path.{_≡_}
 use Rattle.documents.specs.Paths.{towards}
 use Rattle.reasoning.specs.Arrays.{parentOf}
-use Rattle.reasoning.specs.Handed.{gather, coverEach}
+use Rattle.theory.specs.Handed.{gather, coverEach}
 use Rattle.reasoning.specs.Writer.{wordFor}
 use Rattle.reasoning.proofs.GoalWords.{gather-laws}
 

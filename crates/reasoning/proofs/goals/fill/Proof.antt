@@ -5,7 +5,7 @@ use borrow.Author.Needs.{needs}
 use Prim.Native.Nat.{_^_, _<_, _≤_}
 use mathlib.Core.Path.{_≡_}
 use Rattle.reasoning.specs.Arrays.{parentOf}
-use Rattle.reasoning.specs.Handed.{fillWord}
+use Rattle.theory.specs.Handed.{fillWord}
 use Rattle.reasoning.specs.Writer.{wordFor}
 use Rattle.reasoning.proofs.GoalWords.{choose-laws}
 

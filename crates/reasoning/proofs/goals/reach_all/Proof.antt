@@ -4,7 +4,7 @@ use Rattle.reasoning.proofs.goals.reach_all.Tie as tie
 use borrow.Author.Needs.{needs}
 use Prim.Native.Nat.{_^_, _<_}
 use mathlib.Core.Path.{_≡_}
-use Rattle.reasoning.specs.Handed.{gather}
+use Rattle.theory.specs.Handed.{gather}
 use Rattle.reasoning.specs.Writer.{wordFor}
 use Rattle.reasoning.proofs.GoalWords.{gather-laws}
 

@@ -6,7 +6,7 @@ use native.Mathlib.Omega.{arith}
 use Prim.Native.Nat.{_-_, _^_, _≤_, _<_}
 use mathlib.Core.Path.{_≡_}
 use Rattle.reasoning.specs.Arrays.{parentOf}
-use Rattle.reasoning.specs.Handed.{childPaths}
+use Rattle.theory.specs.Handed.{childPaths}
 use Rattle.reasoning.proofs.Places.{with-under, child-on, child-paths-laws}
 
 abbrev Inv-loop : tie.InvT-loop

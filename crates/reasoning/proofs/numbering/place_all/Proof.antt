@@ -5,7 +5,7 @@ use borrow.Author.Needs.{needs}
 use Prim.Native.Nat.{_+_, _*_, _-_, _≤_}
 use mathlib.Core.Path.{_≡_}
 use Rattle.reasoning.specs.Arrays.{parentOf}
-use Rattle.reasoning.specs.Handed.{layersFrom, pathOrder}
+use Rattle.theory.specs.Handed.{layersFrom, pathOrder}
 use Rattle.reasoning.specs.Emit.{partsIn, placed}
 use Rattle.reasoning.proofs.Places.{order-laws}
 

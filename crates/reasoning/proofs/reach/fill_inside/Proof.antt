@@ -7,7 +7,7 @@ use Rattle.reasoning.proofs.steps.subtree.Reads as subtree-reads
 use borrow.Author.Needs.{needs}
 use Prim.Native.Nat.{_-_, _≤_}
 use mathlib.Core.Path.{_≡_}
-use Rattle.reasoning.specs.Reachable.{subtree}
+use Rattle.theory.specs.Reachable.{subtree}
 use Rattle.reasoning.specs.Arrays.{parentOf}
 use Rattle.reasoning.specs.Known.{Filled}
 use Rattle.reasoning.proofs.Filling.{fill-laws}

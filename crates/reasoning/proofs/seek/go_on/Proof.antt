@@ -8,7 +8,7 @@ use Prim.Native.Nat.{_+_, _-_, _≤_, _<_}
 use mathlib.Core.Path.{_≡_}
 use lib.Seq.{sets}
 use Rattle.reasoning.specs.Arrays.{parentOf, ruleList}
-use Rattle.reasoning.specs.Search.{forward}
+use Rattle.theory.specs.Search.{forward}
 use Rattle.reasoning.specs.Layers.{nearerOf}
 use Rattle.reasoning.proofs.Seeking.{codes-laws}
 

@@ -9,7 +9,7 @@ use Prim.Native.Nat.{_+_, _-_, _≤_, _<_}
 use mathlib.Core.Path.{_≡_}
 use Rattle.files.specs.Rules.{rulesFrom}
 use Rattle.reasoning.specs.Arrays.{ruleList}
-use Rattle.reasoning.specs.Search.{ruleMove}
+use Rattle.theory.specs.Search.{ruleMove}
 use Rattle.reasoning.proofs.Seeking.{move-laws, move-against, move-on}
 
 abbrev Inv-loop : tie.InvT-loop

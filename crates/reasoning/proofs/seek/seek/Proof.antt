@@ -10,7 +10,7 @@ use mathlib.Core.Path.{_≡_}
 use mathlib.Core.List.{[]}
 use lib.ListN.{length}
 use Rattle.reasoning.specs.Arrays.{parentOf, ruleList}
-use Rattle.reasoning.specs.Search.{seek}
+use Rattle.theory.specs.Search.{seek}
 use Rattle.reasoning.specs.Layers.{nearerOf}
 use Rattle.reasoning.proofs.Seeking.{seek-laws}
 

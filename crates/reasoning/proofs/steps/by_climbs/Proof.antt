@@ -7,7 +7,7 @@ use Rattle.reasoning.proofs.steps.parent_of.Reads as parent-of-reads
 use borrow.Author.Needs.{needs}
 use Prim.Native.Nat.{_≤_}
 use mathlib.Core.Path.{_≡_}
-use Rattle.reasoning.specs.Reachable.{byClimbs}
+use Rattle.theory.specs.Reachable.{byClimbs}
 use Rattle.reasoning.specs.Arrays.{parentOf, wayOf}
 use Rattle.reasoning.proofs.Stepping.{climbs-laws}
 

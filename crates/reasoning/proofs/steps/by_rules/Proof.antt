@@ -8,7 +8,7 @@ use borrow.Author.Needs.{needs}
 use Prim.Native.Nat.{_-_, _≤_}
 use mathlib.Core.Path.{_≡_}
 use Rattle.files.specs.Rules.{rulesFrom}
-use Rattle.reasoning.specs.Reachable.{onward, byRules}
+use Rattle.theory.specs.Reachable.{onward, byRules}
 use Rattle.reasoning.specs.Arrays.{ruleList}
 use Rattle.reasoning.proofs.Stepping.{rules-laws}
 

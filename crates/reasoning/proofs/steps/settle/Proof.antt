@@ -7,7 +7,7 @@ use borrow.Author.Needs.{needs}
 use Prim.Native.Nat.{_-_, _^_, _≤_, _<_}
 use mathlib.Core.Path.{_≡_}
 use mathlib.Core.Bool.{false}
-use Rattle.reasoning.specs.Reachable.{oneStep}
+use Rattle.theory.specs.Reachable.{oneStep}
 use Rattle.reasoning.specs.Arrays.{parentOf, ruleList, wayOf, settled}
 use Rattle.reasoning.proofs.Stepping.{settle-laws}
 

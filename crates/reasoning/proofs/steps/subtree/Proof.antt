@@ -8,7 +8,7 @@ use Rattle.reasoning.proofs.steps.parent_of.Reads as parent-of-reads
 use borrow.Author.Needs.{needs}
 use Prim.Native.Nat.{_-_, _≤_}
 use mathlib.Core.Path.{_≡_}
-use Rattle.reasoning.specs.Reachable.{joinChildren, subtree}
+use Rattle.theory.specs.Reachable.{joinChildren, subtree}
 use Rattle.reasoning.specs.Arrays.{parentOf}
 use Rattle.reasoning.proofs.Stepping.{subtree-laws}
 

@@ -1,0 +1,146 @@
+-- E1 to E11 of 01, by computation.
+use Prim.Native.Nat.{ℕ}
+use mathlib.Core.Path.{_≡_, refl}
+use mathlib.Core.List.{List, map}
+use lib.Count.{leadingZeros, trailingZeros}
+use Rattle.files.specs.Number.{bytesOf, bytesOfAll}
+use Rattle.files.specs.Sets.{
+  bit,
+  hasb,
+  withPath,
+  withoutPath,
+  union,
+  common,
+  difference,
+  lowest,
+  withoutLowest,
+  sizeBelow,
+  size,
+  membersFrom,
+  members,
+}
+use Rattle.documents.specs.Paths.{climbsTo, belowb, meet, contextOf, climbUnder, towards, climbs, depthOf}
+use Rattle.documents.specs.PartList.{partNumbers, documentNumbers}
+use Rattle.theory.specs.Least.{firstFrom, least, passing, someIn}
+use Rattle.theory.specs.Reachable.{
+  tail,
+  tip,
+  foot,
+  head,
+  joinChildren,
+  subtree,
+  goesAlong,
+  goesAgainst,
+  carry,
+  byRule,
+  byRules,
+  byClimbs,
+  oneStep,
+  settle,
+  alone,
+  reachable,
+  reachb,
+}
+use Rattle.theory.specs.Search.{ruleMove, leastMove, forward, seek, writtenWalk}
+use Rattle.theory.specs.Decide.{
+  ruleAt,
+  askedIn,
+  bothFrom,
+  clashb,
+  clashRule,
+  clashes,
+  clashing,
+  clashesFrom,
+  isDead,
+  deadPath,
+  deadRule,
+  deadPaths,
+  sidesFrom,
+  pairb,
+  pairRule,
+  isPair,
+  pairSide,
+  reacher,
+  rootSides,
+  rootb,
+  rootRule,
+  isRootPair,
+  rootFirst,
+  rootSecond,
+  isAskedDead,
+  deadAsked,
+}
+use Rattle.theory.specs.Evidence.{
+  walkNumbers,
+  firstSide,
+  secondSide,
+  impliesb,
+  excludesb,
+  yesb,
+  consistentb,
+  directNumbers,
+  deadNumbersBy,
+  deadNumbers,
+  pairNumbers,
+  implicationNumbers,
+  absenceNumbers,
+  evidenceNumbers,
+  inconsistentNumbers,
+}
+use Rattle.theory.specs.Handed.{
+  highest,
+  gather,
+  eachOf,
+  onlyIf,
+  climbAll,
+  startBoth,
+  startNo,
+  severalb,
+  reachAll,
+  coverEach,
+  fillWord,
+  kidWord,
+  oneKids,
+  chain,
+  allKids,
+  kidsAt,
+  rootGoals,
+  goalsOn,
+  rowsFrom,
+  goalRows,
+  layer,
+  layersFrom,
+  pathOrder,
+  childPaths,
+  partsOn,
+  placeOf,
+  numberOf,
+  kidsOn,
+  entryOn,
+  entriesOn,
+  handedEntries,
+  handedNumbers,
+}
+use Rattle.theory.specs.Examples.{Example, readAs, answerTo, examples}
+use Rattle.files.specs.Format.{onTest, onNumber, run, atEnd, runAll}
+use Rattle.files.specs.Number.{twoBytes, secondIn, numberIn}
+use Rattle.files.specs.RuleFile.{between, ruleFile}
+
+-- what answers are computed from: to unfold this is to unfold all of it
+unfoldable pub computing : ℕ
+unfolding leadingZeros trailingZeros bytesOf bytesOfAll bit hasb withPath withoutPath union common difference lowest withoutLowest
+    sizeBelow size membersFrom members climbsTo belowb meet contextOf climbUnder towards climbs depthOf partNumbers
+    documentNumbers firstFrom least passing someIn tail tip foot head joinChildren subtree goesAlong goesAgainst carry byRule
+    byRules byClimbs oneStep settle alone reachable reachb ruleMove leastMove forward seek writtenWalk ruleAt askedIn bothFrom
+    clashb clashRule clashes clashing clashesFrom isDead deadPath deadRule deadPaths sidesFrom pairb pairRule isPair pairSide
+    reacher rootSides rootb rootRule isRootPair rootFirst rootSecond isAskedDead deadAsked walkNumbers firstSide secondSide
+    impliesb excludesb yesb consistentb directNumbers deadNumbersBy deadNumbers pairNumbers implicationNumbers absenceNumbers
+    evidenceNumbers inconsistentNumbers highest gather eachOf onlyIf climbAll startBoth startNo severalb reachAll coverEach
+    fillWord kidWord oneKids chain allKids kidsAt rootGoals goalsOn rowsFrom goalRows layer layersFrom pathOrder childPaths
+    partsOn placeOf numberOf kidsOn entryOn entriesOn handedEntries handedNumbers
+computing = 0
+
+-- every example has its answer
+pub examples-hold : map (λ (e : Example). answerTo (e .question)) examples ≡ map (λ (e : Example). e .answer) examples
+unfolding answerTo readAs computing runAll run atEnd onNumber onTest numberIn secondIn twoBytes ruleFile between
+examples-hold = refl
