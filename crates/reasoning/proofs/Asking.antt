@@ -16,17 +16,17 @@ use Rattle.files.specs.Writing.{tablePasses, put, wrapped, Puts}
 use Rattle.files.proofs.TableTests.{passes-valid}
 use Rattle.documents.specs.Paths.{Descending, contextOf}
 use Rattle.reasoning.specs.declared.question.Reply.{Reply}
-use Rattle.reasoning.specs.Arrays.{parentOf, ruleList, Sound}
+use Rattle.reachable.specs.Arrays.{parentOf, ruleList, Sound}
 use Rattle.reasoning.specs.Calls.{askable, answerOf, parentsOf, ruleListOf, AnswersQuestion}
 use Rattle.theory.specs.Decide.{clashing}
-use Rattle.reasoning.specs.Emit.{Writable}
+use Rattle.handed.specs.Emit.{Writable}
 use Rattle.theory.specs.Evidence.{impliesb, yesb, evidenceNumbers}
 use Rattle.theory.specs.Handed.{handedNumbers, Start, startNo, startBoth, startImplication, startAbsence}
-use Rattle.reasoning.specs.Known.{Reaches}
-use Rattle.reasoning.specs.Layers.{Stored}
+use Rattle.reachable.specs.Known.{Reaches}
+use Rattle.evidence.specs.Layers.{Stored}
 use Rattle.reasoning.specs.Lent.{Passed, LentTable, PassedQuestion, Affirmed, Denied, Countered}
-use Rattle.reasoning.specs.Words.{Decided}
-use Rattle.reasoning.specs.Writer.{wordFor, startOf}
+use Rattle.evidence.specs.Words.{Decided}
+use Rattle.handed.specs.Writer.{wordFor, startOf}
 use Rattle.reasoning.proofs.CallLaws.{ask-refuses, ask-bars, ask-shows, ask-hands}
 use Rattle.reasoning.proofs.Calling.{taken, passed-sound, passed-table, valid-passed}
 use Rattle.theory.proofs.HandedQuestions.{begins-no}
@@ -34,7 +34,7 @@ use Rattle.theory.proofs.HandedRows.{Begins}
 use Rattle.reasoning.proofs.QuestionJoins.{askable-asked}
 use Rattle.reasoning.proofs.TableArrays.{arrays-parents, arrays-rules}
 use Rattle.reasoning.proofs.ValidFits.{table-fits}
-use Rattle.reasoning.proofs.Writable.{table-words, writable}
+use Rattle.handed.proofs.Writable.{table-words, writable}
 
 -- ---- whether a question can be asked
 

@@ -17,22 +17,22 @@ use Rattle.files.specs.Sets.{withPath}
 use Rattle.files.proofs.TableTests.{passes-valid}
 use Rattle.reasoning.specs.declared.consistency.Verdict.{Verdict}
 use Rattle.reasoning.specs.declared.question.Reply.{Reply}
-use Rattle.reasoning.specs.Arrays.{parentOf, ruleList, Parents, Sound}
+use Rattle.reachable.specs.Arrays.{parentOf, ruleList, Parents, Sound}
 use Rattle.reasoning.specs.Calls.{askedOf, parentsOf, answerOf, DecidesConsistency}
-use Rattle.reasoning.specs.Emit.{Writable}
+use Rattle.handed.specs.Emit.{Writable}
 use Rattle.theory.specs.Evidence.{consistentb, inconsistentNumbers}
 use Rattle.theory.specs.Decide.{clashing}
-use Rattle.reasoning.specs.Known.{Reaches, Known}
-use Rattle.reasoning.specs.Layers.{Stored}
-use Rattle.reasoning.specs.Words.{Decided}
+use Rattle.reachable.specs.Known.{Reaches, Known}
+use Rattle.evidence.specs.Layers.{Stored}
+use Rattle.evidence.specs.Words.{Decided}
 use Rattle.theory.specs.Handed.{handedNumbers, startConsistency}
 use Rattle.reasoning.specs.Lent.{Passed, LentTable, Witnessed, Conflicting}
-use Rattle.reasoning.specs.Writer.{wordFor, startOf}
+use Rattle.handed.specs.Writer.{wordFor, startOf}
 use Rattle.reasoning.proofs.CallLaws.{consistency-refuses, consistency-hands, consistency-shows, passes-sound}
 use Rattle.reasoning.proofs.ConsistencyJoins.{asked-begins}
 use Rattle.theory.proofs.HandedRows.{Begins}
 use Rattle.reasoning.proofs.TableArrays.{arrays-parents}
-use Rattle.reasoning.proofs.Writable.{table-words, writable}
+use Rattle.handed.proofs.Writable.{table-words, writable}
 
 module _ (t : Rules) (word : t .required < 2 ^ 64) (parent depth table : List ℕ) (asked : ℕ) (h : Witnessed t parent depth table asked) where
   valid : ValidTable t

@@ -13,14 +13,14 @@ use Rattle.files.proofs.Tables.{rules-length, parents-are}
 use Rattle.documents.specs.Paths.{Below, Descending, depthOf}
 use Rattle.documents.proofs.Paths.{below-le}
 use Rattle.documents.proofs.CheckingJoins.{few-paths, descending}
-use Rattle.reasoning.specs.Arrays.{parentOf, ruleList, Sound}
+use Rattle.reachable.specs.Arrays.{parentOf, ruleList, Sound}
 use Rattle.reasoning.specs.Calls.{parentsOf, ruleListOf}
 use Rattle.theory.specs.Handed.{ReachWords}
-use Rattle.reasoning.specs.Known.{lookup, reached, Reaches}
+use Rattle.reachable.specs.Known.{lookup, reached, Reaches}
 use Rattle.theory.specs.Parts.{RulesIn}
 use Rattle.theory.specs.Reachable.{reachable}
 use Rattle.theory.specs.Walk.{Reach}
-use Rattle.reasoning.proofs.Filling.{sound-fits}
+use Rattle.reachable.proofs.Filling.{sound-fits}
 use Rattle.theory.proofs.HandedDocuments.{reachable-words}
 use Rattle.reasoning.proofs.ValidFits.{table-fits, table-shallow}
 

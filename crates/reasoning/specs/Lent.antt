@@ -6,13 +6,13 @@ use mathlib.Core.List.{List}
 use Rattle.files.specs.declared.rules.Rules.{Rules}
 use Rattle.files.specs.Rules.{parentsIn}
 use Rattle.files.specs.Writing.{tablePasses}
-use Rattle.reasoning.specs.Arrays.{parentOf, ruleList}
+use Rattle.reachable.specs.Arrays.{parentOf, ruleList}
 use Rattle.reasoning.specs.Calls.{askedOf, askable}
 use Rattle.theory.specs.Decide.{clashing}
 use Rattle.theory.specs.Evidence.{consistentb, yesb}
 use Rattle.theory.specs.Handed.{startNo}
-use Rattle.reasoning.specs.Writer.{startOf}
-use Rattle.reasoning.specs.Known.{Known}
+use Rattle.handed.specs.Writer.{startOf}
+use Rattle.reachable.specs.Known.{Known}
 
 -- the table passed its test, and the array has its parents
 pub record Passed (t : Rules) (parent : List ℕ) : Type 0 where

@@ -4,7 +4,7 @@ use Rattle.reasoning.proofs.consistency.put_witness.Tie as tie
 use Rattle.reasoning.proofs.consistency.put_witness.Reads as reads
 use Rattle.reasoning.proofs.consistency.put_witness.Lts as lts
 use Rattle.reasoning.proofs.consistency.witnessed.Reads as witnessed-reads
-use Rattle.reasoning.proofs.document.write_document.Reads as write-document-reads
+use Rattle.handed.proofs.document.write_document.Reads as write-document-reads
 use native.Mathlib.Omega.{arith}
 use Rattle.reasoning.proofs.Calling.{witness-writable, witness-put}
 

@@ -1,0 +1,5 @@
+pub mod Answering
+pub mod Choosing
+pub mod Collecting
+pub mod Seeking
+pub mod WordJoins

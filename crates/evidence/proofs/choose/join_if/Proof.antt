@@ -1,0 +1,19 @@
+use borrow.Author.Needs.{needs}
+use Rattle.evidence.proofs.choose.join_if.Statement.{statement}
+use Rattle.evidence.proofs.choose.join_if.Tie as tie
+use Rattle.evidence.proofs.choose.join_if.Reads as reads
+use Rattle.evidence.proofs.choose.join_if.Lts as lts
+use Rattle.files.proofs.sets.with.Reads as with-reads
+use Rattle.evidence.proofs.Choosing.{join-laws}
+
+with-requires : tie.Need-with-requires
+with-requires c κs = search needs
+
+returns : tie.Need-returns
+returns c = search (needs, join-laws)
+
+returns-2 : tie.Need-returns-2
+returns-2 c = search (needs, join-laws)
+
+pub join-if-spec : {M : Type 1} → statement M
+join-if-spec = tie.close (tie.spec with-requires returns returns-2)

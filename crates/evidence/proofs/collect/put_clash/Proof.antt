@@ -1,0 +1,47 @@
+use borrow.Author.Needs.{needs}
+use Rattle.evidence.proofs.collect.put_clash.Statement.{statement}
+use Rattle.evidence.proofs.collect.put_clash.Tie as tie
+use Rattle.evidence.proofs.collect.put_clash.Reads as reads
+use Rattle.evidence.proofs.collect.put_clash.Lts as lts
+use Rattle.evidence.proofs.collect.put_walks.Reads as put-walks-reads
+use Rattle.evidence.proofs.seek.put_walk.Reads as put-walk-reads
+use Rattle.reachable.proofs.steps.context.Reads as context-reads
+use Rattle.reachable.proofs.steps.wide.Reads as wide-reads
+use Rattle.evidence.proofs.Collecting.{side-laws, stored-laws}
+
+put-walk-requires : tie.Need-put-walk-requires
+put-walk-requires c κs = search needs
+
+element-copy-out-wide : tie.Need-element-copy-out-wide
+element-copy-out-wide c = search needs
+
+wide-requires : tie.Need-wide-requires
+wide-requires c κs = search needs
+
+element-copy-out-wide-2 : tie.Need-element-copy-out-wide-2
+element-copy-out-wide-2 c = search needs
+
+wide-requires-2 : tie.Need-wide-requires-2
+wide-requires-2 c κs = search needs
+
+context-requires : tie.Need-context-requires
+context-requires c κs = search (needs, side-laws, stored-laws)
+
+put-walks-requires : tie.Need-put-walks-requires
+put-walks-requires c κs = search (needs, side-laws, stored-laws)
+
+returns : tie.Need-returns
+returns c = search (needs, side-laws, stored-laws)
+
+pub put-clash-spec : {M : Type 1} → statement M
+put-clash-spec =
+    tie.close
+    (tie.spec
+    put-walk-requires
+    element-copy-out-wide
+    wide-requires
+    element-copy-out-wide-2
+    wide-requires-2
+    context-requires
+    put-walks-requires
+    returns)

@@ -1,0 +1,81 @@
+use borrow.Author.Needs.{needs}
+use native.Mathlib.Omega.{arith}
+use Rattle.evidence.proofs.collect.put_dead_by.Statement.{statement}
+use Rattle.evidence.proofs.collect.put_dead_by.Tie as tie
+use Rattle.evidence.proofs.collect.put_dead_by.Reads as reads
+use Rattle.evidence.proofs.collect.put_dead_by.Lts as lts
+use Rattle.evidence.proofs.collect.put_clash.Reads as put-clash-reads
+use Rattle.evidence.proofs.Collecting.{stored-laws}
+
+mul-numbers : tie.Need-mul-numbers
+mul-numbers c = search needs
+
+element-write-numbers : tie.Need-element-write-numbers
+element-write-numbers c = search needs
+
+cast-numbers : tie.Need-cast-numbers
+cast-numbers c = search needs
+
+add-numbers : tie.Need-add-numbers
+add-numbers c = search needs
+
+mul-numbers-2 : tie.Need-mul-numbers-2
+mul-numbers-2 c = search needs
+
+element-write-numbers-2 : tie.Need-element-write-numbers-2
+element-write-numbers-2 c = search needs
+
+cast-numbers-2 : tie.Need-cast-numbers-2
+cast-numbers-2 c = search needs
+
+add-numbers-2 : tie.Need-add-numbers-2
+add-numbers-2 c = search needs
+
+mul-numbers-3 : tie.Need-mul-numbers-3
+mul-numbers-3 c = search needs
+
+element-write-numbers-3 : tie.Need-element-write-numbers-3
+element-write-numbers-3 c = search needs
+
+cast-numbers-3 : tie.Need-cast-numbers-3
+cast-numbers-3 c = search needs
+
+add-numbers-3 : tie.Need-add-numbers-3
+add-numbers-3 c = search needs
+
+mul-numbers-4 : tie.Need-mul-numbers-4
+mul-numbers-4 c = search needs
+
+element-write-numbers-4 : tie.Need-element-write-numbers-4
+element-write-numbers-4 c = search needs
+
+add-put-clash : tie.Need-add-put-clash
+add-put-clash c = search needs
+
+put-clash-requires : tie.Need-put-clash-requires
+put-clash-requires c κs = (c .before .pre .0, c .before .pre .1, c .before .pre .2, c .before .pre .3, omega arith)
+
+returns : tie.Need-returns
+returns c = search (needs, stored-laws)
+
+pub put-dead-by-spec : {M : Type 1} → statement M
+put-dead-by-spec =
+    tie.close
+    (tie.spec
+    mul-numbers
+    element-write-numbers
+    cast-numbers
+    add-numbers
+    mul-numbers-2
+    element-write-numbers-2
+    cast-numbers-2
+    add-numbers-2
+    mul-numbers-3
+    element-write-numbers-3
+    cast-numbers-3
+    add-numbers-3
+    mul-numbers-4
+    element-write-numbers-4
+    add-put-clash
+    put-clash-requires
+    returns)

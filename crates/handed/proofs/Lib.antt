@@ -1,0 +1,6 @@
+pub mod Emitting
+pub mod EmittingParts
+pub mod GoalWords
+pub mod Places
+pub mod Writable
+pub mod WrittenDocument

@@ -1,0 +1,55 @@
+-- `reasoning::goals::gather_kids` meets its contract: what is gathered and what remains is the whole.
+use Rattle.handed.proofs.goals.gather_kids.Statement.{statement}
+use Rattle.handed.proofs.goals.gather_kids.Tie as tie
+use borrow.Author.Needs.{needs}
+use Prim.Native.Nat.{_^_, _<_}
+use mathlib.Core.Path.{_≡_}
+use Rattle.reachable.specs.Arrays.{parentOf}
+use Rattle.theory.specs.Handed.{gather, oneKids}
+use Rattle.handed.specs.Writer.{wordFor}
+use Rattle.handed.proofs.GoalWords.{gather-laws}
+
+abbrev Inv-loop : tie.InvT-loop
+Inv-loop parent depth table count c here first left₀ all₀ left all = (left < 2 ^ 64) × (gather (oneKids (parentOf parent) count (wordFor depth table count) c) 64 left all ≡ gather (oneKids (parentOf parent) count (wordFor depth table count) c) 64 here first)
+
+abbrev μ-loop : tie.MeasureT-loop
+μ-loop parent depth table count c here first left₀ all₀ left all = left
+
+loop-holds : tie.Need-loop-holds Inv-loop μ-loop
+loop-holds c = search (needs, gather-laws)
+
+lowest-requires : tie.Need-lowest-requires Inv-loop μ-loop
+lowest-requires c κs = search (needs, gather-laws)
+
+one-kids-requires : tie.Need-one-kids-requires Inv-loop μ-loop
+one-kids-requires c κs = search (needs, gather-laws)
+
+union-requires : tie.Need-union-requires Inv-loop μ-loop
+union-requires c κs = search (needs, gather-laws)
+
+without-lowest-requires : tie.Need-without-lowest-requires Inv-loop μ-loop
+without-lowest-requires c κs = search (needs, gather-laws)
+
+loop-less : tie.Need-loop-less Inv-loop μ-loop
+loop-less c = search (needs, gather-laws)
+
+loop-again : tie.Need-loop-again Inv-loop μ-loop
+loop-again c = search (needs, gather-laws)
+
+returns : tie.Need-returns Inv-loop μ-loop
+returns c = search (needs, gather-laws)
+
+pub gather-kids-spec : {M : Type 1} → statement M
+gather-kids-spec =
+    tie.close
+    (tie.spec
+    Inv-loop
+    μ-loop
+    loop-holds
+    lowest-requires
+    one-kids-requires
+    union-requires
+    without-lowest-requires
+    loop-less
+    loop-again
+    returns)
