@@ -19,6 +19,10 @@ use crate::numbering::place_all;
 use files::sets;
 use files::write::Written;
 
+// The two passes over a document: one counts its bytes, the other stores them.
+const COUNT: bool = false;
+const STORE: bool = true;
+
 // The parts on path c with one goal of a set.
 fn emit_ones(
     parent: &[u8; 64],
@@ -295,7 +299,7 @@ fn put_document(
         rows,
         places,
         parts,
-        false,
+        COUNT,
         out,
         0,
     );
@@ -313,7 +317,7 @@ fn put_document(
         rows,
         places,
         parts,
-        true,
+        STORE,
         out,
         0,
     );
