@@ -12,6 +12,7 @@ use numbers::verdict;
 use numbers::written;
 use reasoning::consistency::consistency;
 use reasoning::question::ask;
+
 mod numbers;
 
 // Reads a rule file and writes it again: 1 and the length, or the refusal.

@@ -1,43 +1,31 @@
 use borrow.Author.Needs.{needs}
 use Rattle.entry.proofs.numbers.checked.Statement.{statement}
 use Rattle.entry.proofs.numbers.checked.Tie as tie
-use Rattle.entry.proofs.numbers.checked.Reads as reads
-use Rattle.entry.proofs.numbers.checked.Lts as lts
-use Rattle.entry.proofs.numbers.refusal.Reads as refusal-reads
 
--- src/numbers.rt:31:27
 enum-told : tie.Need-enum-told
 enum-told c = search needs
 
--- src/numbers.rt:32:25
 enum-known-c : tie.Need-enum-known-c
 enum-known-c c = search needs
 
--- src/numbers.rt:33:26
 enum-known-c-2 : tie.Need-enum-known-c-2
 enum-known-c-2 c = search needs
 
--- src/numbers.rt:34:26
 enum-known-c-3 : tie.Need-enum-known-c-3
 enum-known-c-3 c = search needs
 
--- src/numbers.rt:34:44
 refusal-requires : tie.Need-refusal-requires
 refusal-requires c κs = search needs
 
--- src/numbers.rt:27:1
 returns : tie.Need-returns
 returns c = cc
 
--- src/numbers.rt:27:1
 returns-2 : tie.Need-returns-2
 returns-2 c = cc
 
--- src/numbers.rt:27:1
 returns-3 : tie.Need-returns-3
 returns-3 c = cc
 
--- src/numbers.rt:27:1
 returns-4 : tie.Need-returns-4
 returns-4 c = cc
 

@@ -1,35 +1,25 @@
 use borrow.Author.Needs.{needs}
 use Rattle.entry.proofs.numbers.verdict.Statement.{statement}
 use Rattle.entry.proofs.numbers.verdict.Tie as tie
-use Rattle.entry.proofs.numbers.verdict.Reads as reads
-use Rattle.entry.proofs.numbers.verdict.Lts as lts
-use Rattle.entry.proofs.numbers.refusal.Reads as refusal-reads
 
--- src/numbers.rt:43:29
 enum-known-v : tie.Need-enum-known-v
 enum-known-v c = search needs
 
--- src/numbers.rt:44:31
 enum-known-v-2 : tie.Need-enum-known-v-2
 enum-known-v-2 c = search needs
 
--- src/numbers.rt:45:26
 enum-known-v-3 : tie.Need-enum-known-v-3
 enum-known-v-3 c = search needs
 
--- src/numbers.rt:45:44
 refusal-requires : tie.Need-refusal-requires
 refusal-requires c κs = search needs
 
--- src/numbers.rt:39:1
 returns : tie.Need-returns
 returns c = cc
 
--- src/numbers.rt:39:1
 returns-2 : tie.Need-returns-2
 returns-2 c = cc
 
--- src/numbers.rt:39:1
 returns-3 : tie.Need-returns-3
 returns-3 c = cc
 
