@@ -21,95 +21,102 @@ fn printed(program: &str, rules: &[u8]) -> String {
     if done.status.success() { text } else { format!("{text} ({})", done.status) }
 }
 
-/// An answer of the vectors as three numbers and bytes. `words` are those of its cases, from 1 on; `values`: they are
-/// written into the buffer, else into the answer.
-fn wanted(answer: &str, words: &[&str], written: bool) -> Left {
+/// An answer of the vectors as three numbers and bytes. `words` are those of its cases, from 1 on. Where the call writes, the
+/// answer's numbers are the bytes; else they are the values.
+fn wanted(answer: &str, words: &[&str], writes: bool) -> Left {
     let mut parts = answer.split(' ');
     let word = parts.next().unwrap();
-    let values: Vec<&str> = parts.collect();
-    let number = |i: usize| values.get(i).map_or(0, |v| v.parse().expect("a number"));
+    let values: Vec<usize> = parts.map(|v| v.parse().expect("a number")).collect();
+    let value = |i: usize| values.get(i).copied().unwrap_or(0);
     let mut bytes = Vec::new();
     let answer = match words.iter().position(|&w| w == word) {
-        Some(i) if written => {
-            values.iter().for_each(|v| put_number(v.parse().expect("a number"), &mut bytes));
+        Some(i) if writes => {
+            values.iter().for_each(|&v| put_number(v, &mut bytes));
             [i + 1, bytes.len(), 0]
         }
-        Some(i) => [i + 1, number(0), number(1)],
-        None if word == "refused" => [0, number(0), number(1)],
+        Some(i) => [i + 1, value(0), value(1)],
+        None if word == "refused" => [0, value(0), value(1)],
         None => panic!("no such answer: {answer}"),
     };
     Left { answer, bytes, wrong: Vec::new() }
 }
 
+/// What differs, if anything, and whether the answer was asked for again with less room.
+struct Seen {
+    wrong: Vec<String>,
+    again: bool,
+}
+
+impl Seen {
+    fn compare(got: &Left, want: &Left) -> Seen {
+        let wrong = if got == want { Vec::new() } else { vec![format!("wanted {want:?}, got {got:?}")] };
+        Seen { wrong, again: false }
+    }
+
+    /// A call that writes, by the room that it is lent.
+    fn written(mut call: impl FnMut(usize) -> Left, want: &Left) -> Seen {
+        let got = call(ENOUGH);
+        let mut seen = Seen::compare(&got, want);
+        if got.answer[0] != 0 {
+            seen.again = true;
+            seen.wrong.extend(tight(&got, call));
+        }
+        seen
+    }
+}
+
+fn run(call: &str, answer: &str, calls: &mut Calls, program: &str) -> Seen {
+    let words: Vec<&str> = call.split(' ').collect();
+    let rules = bytes(words[1]);
+    let n = |i: usize| words[i].parse::<usize>().expect("a number");
+    match words[0] {
+        "read" => {
+            let want = match answer.strip_prefix("ok ").map(bytes) {
+                Some(file) => Left { answer: [1, file.len(), 0], bytes: file, wrong: Vec::new() },
+                None => wanted(answer, &[], true),
+            };
+            Seen::written(|room| calls.rewrite(&rules, room), &want)
+        }
+        "check" => Seen::compare(&calls.check(&rules, &bytes(words[2])), &wanted(answer, &["obeys", "broken", "missing"], false)),
+        "consistent" => {
+            let want = wanted(answer, &["consistent", "inconsistent"], true);
+            Seen::written(|room| calls.consistency(&rules, room), &want)
+        }
+        "ask" => {
+            let want = wanted(answer, &["yes", "no"], true);
+            Seen::written(|room| calls.ask(&rules, n(2), n(3), n(4), room), &want)
+        }
+        "verdict" => {
+            let got = printed(program, &rules);
+            let wrong = if got == answer { Vec::new() } else { vec![format!("wanted {answer}, got {got}")] };
+            Seen { wrong, again: false }
+        }
+        other => panic!("no such call: {other}"),
+    }
+}
+
 fn main() {
     let args: Vec<String> = std::env::args().collect();
     let text = std::fs::read_to_string(&args[1]).expect("a file of vectors");
-    let program = &args[2];
     let mut calls = Calls::new(1 << 20);
-    let mut seen: BTreeMap<&str, (usize, usize)> = BTreeMap::new();
-    let (mut differing, mut exact) = (0, 0);
+    let mut counts: BTreeMap<&str, (usize, usize)> = BTreeMap::new();
+    let (mut differing, mut again) = (0, 0);
     for line in text.lines().filter(|l| !l.is_empty() && !l.starts_with('#')) {
         let (call, answer) = line.split_once(" = ").expect("CALL ARGS = ANSWER");
-        let words: Vec<&str> = call.split(' ').collect();
-        let rules = bytes(words[1]);
-        let n = |i: usize| words[i].parse::<usize>().expect("a number");
-        let mut wrong = Vec::new();
-        let mut compare = |got: &Left, want: &Left| {
-            if got != want {
-                wrong.push(format!("wanted {want:?}, got {got:?}"));
-            }
-        };
-        match words[0] {
-            "read" => {
-                let want = match answer.strip_prefix("ok ").map(bytes) {
-                    Some(file) => Left { answer: [1, file.len(), 0], bytes: file, wrong: Vec::new() },
-                    None => wanted(answer, &[], false),
-                };
-                let got = calls.rewrite(&rules, ENOUGH);
-                compare(&got, &want);
-                if got.answer[0] != 0 {
-                    exact += 1;
-                    wrong.extend(tight(&got, |room| calls.rewrite(&rules, room)));
-                }
-            }
-            "check" => compare(&calls.check(&rules, &bytes(words[2])), &wanted(answer, &["obeys", "broken", "missing"], false)),
-            "consistent" => {
-                let got = calls.consistency(&rules, ENOUGH);
-                compare(&got, &wanted(answer, &["consistent", "inconsistent"], true));
-                if got.answer[0] != 0 {
-                    exact += 1;
-                    wrong.extend(tight(&got, |room| calls.consistency(&rules, room)));
-                }
-            }
-            "ask" => {
-                let got = calls.ask(&rules, n(2), n(3), n(4), ENOUGH);
-                compare(&got, &wanted(answer, &["yes", "no"], true));
-                if got.answer[0] != 0 {
-                    exact += 1;
-                    wrong.extend(tight(&got, |room| calls.ask(&rules, n(2), n(3), n(4), room)));
-                }
-            }
-            "verdict" => {
-                let got = printed(program, &rules);
-                if got != answer {
-                    wrong.push(format!("wanted {answer}, got {got}"));
-                }
-            }
-            other => panic!("no such call: {other}"),
-        }
-        let (all, agree) = seen.entry(words[0]).or_default();
+        let seen = run(call, answer, &mut calls, &args[2]);
+        let (all, agree) = counts.entry(call.split(' ').next().unwrap()).or_default();
         *all += 1;
-        if wrong.is_empty() {
-            *agree += 1;
-        } else {
+        *agree += seen.wrong.is_empty() as usize;
+        again += seen.again as usize;
+        if !seen.wrong.is_empty() {
             differing += 1;
             println!("differs: {call}");
-            wrong.iter().for_each(|w| println!("  {w}"));
+            seen.wrong.iter().for_each(|w| println!("  {w}"));
         }
     }
-    for (call, (all, agree)) in &seen {
+    for (call, (all, agree)) in &counts {
         println!("{call}: {agree} of {all} agree");
     }
-    println!("written answers asked for again, with exactly their room and with one byte less: {exact}");
+    println!("written answers asked for again, with exactly their room and with one byte less: {again}");
     exit((differing > 0) as i32);
 }

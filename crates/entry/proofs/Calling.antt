@@ -1,6 +1,6 @@
 -- From what reading a file answered to what a call over its bytes promises.
 use Prim.Native.Nat.{ℕ}
-use mathlib.Core.Path.{_≡_, refl, subst, ap, sym, _∙_}
+use mathlib.Core.Path.{_≡_, subst, ap, sym, _∙_}
 use mathlib.Core.List.{List}
 use native.Mathlib.Omega.{arith}
 use Rattle.files.specs.declared.read.Answer.{Answer}

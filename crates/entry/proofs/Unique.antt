@@ -4,14 +4,7 @@ use mathlib.Core.Path.{_≡_, refl, ap, sym, _∙_}
 use mathlib.Core.List.{List}
 use Rattle.files.specs.declared.read.Answer.{Answer}
 use Rattle.files.specs.declared.rules.Rules.{Rules}
-use Rattle.files.specs.declared.write.Written.{Written}
 use Rattle.files.specs.Reading.{readAnswer}
-use Rattle.files.specs.Writing.{WriteRules}
-use Rattle.documents.specs.declared.check.Checked.{Checked}
-use Rattle.documents.specs.Checking.{CheckDocument}
-use Rattle.reasoning.specs.declared.consistency.Verdict.{Verdict}
-use Rattle.reasoning.specs.declared.question.Reply.{Reply}
-use Rattle.reasoning.specs.Calls.{DecidesConsistency, AnswersQuestion}
 use Rattle.files.proofs.WritingJoins.{write-unique}
 use Rattle.documents.proofs.CheckingJoins.{check-unique}
 use Rattle.reasoning.proofs.ConsistencyJoins.{consistency-unique}

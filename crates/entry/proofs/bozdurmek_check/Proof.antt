@@ -1,5 +1,4 @@
 use borrow.Author.Needs.{needs}
-use mathlib.Core.Path.{refl}
 use Rattle.entry.proofs.Calling.{file-refused, file-accepted, laid}
 use Rattle.entry.proofs.bozdurmek_check.Statement.{statement}
 use Rattle.entry.proofs.bozdurmek_check.Tie as tie

@@ -1,6 +1,4 @@
 use borrow.Author.Needs.{needs}
-use mathlib.Core.Path.{_≡_, ap, sym, _∙_}
-use Rattle.entry.specs.Numbers.{replyNumbers}
 use Rattle.entry.proofs.numbers.replied.Statement.{statement}
 use Rattle.entry.proofs.numbers.replied.Tie as tie
 
