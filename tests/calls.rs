@@ -112,9 +112,17 @@ impl Calls {
         }
     }
 
-    fn run(&mut self, rules: &[u8], document: Option<&[u8]>, room: usize, writes: &[usize], call: impl Fn(*const u8, *const u8, *mut u8, *mut [usize; 3])) -> Left {
+    /// Lends a call copies of its input and so much room; `writes` are the answers whose first value is a length.
+    fn run(
+        &mut self,
+        rules: &[u8],
+        document: &[u8],
+        room: usize,
+        writes: &[usize],
+        call: impl Fn(*const u8, *const u8, *mut u8, *mut [usize; 3]),
+    ) -> Left {
         let r = self.rules.lend_copy(rules);
-        let d = self.document.lend_copy(document.unwrap_or(&[]));
+        let d = self.document.lend_copy(document);
         let out = self.out.lend_filled(room);
         let answer = self.answer.lend_filled(24) as *mut [usize; 3];
         call(r, d, out, answer);
@@ -131,7 +139,6 @@ impl Calls {
         if self.rules.last(rules.len()) != rules {
             wrong.push("the rule file changed");
         }
-        let document = document.unwrap_or(&[]);
         if self.document.last(document.len()) != document {
             wrong.push("the document changed");
         }
@@ -148,23 +155,23 @@ impl Calls {
     }
 
     pub fn rewrite(&mut self, rules: &[u8], room: usize) -> Left {
-        self.run(rules, None, room, &[1], |r, _, out, answer| unsafe { bozdurmek_rewrite(r, rules.len(), out, room, answer) })
+        self.run(rules, &[], room, &[1], |r, _, out, answer| unsafe { bozdurmek_rewrite(r, rules.len(), out, room, answer) })
     }
 
     pub fn check(&mut self, rules: &[u8], document: &[u8]) -> Left {
-        self.run(rules, Some(document), 0, &[], |r, d, _, answer| unsafe {
+        self.run(rules, document, 0, &[], |r, d, _, answer| unsafe {
             bozdurmek_check(r, rules.len(), d, document.len(), answer)
         })
     }
 
     pub fn consistency(&mut self, rules: &[u8], room: usize) -> Left {
-        self.run(rules, None, room, &[1, 2], |r, _, out, answer| unsafe {
+        self.run(rules, &[], room, &[1, 2], |r, _, out, answer| unsafe {
             bozdurmek_consistency(r, rules.len(), out, room, answer)
         })
     }
 
     pub fn ask(&mut self, rules: &[u8], kind: usize, left: usize, right: usize, room: usize) -> Left {
-        self.run(rules, None, room, &[1, 2], |r, _, out, answer| unsafe {
+        self.run(rules, &[], room, &[1, 2], |r, _, out, answer| unsafe {
             bozdurmek_ask(r, rules.len(), kind, left, right, out, room, answer)
         })
     }
