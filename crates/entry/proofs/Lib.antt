@@ -1,0 +1,4 @@
+-- The laws of the calls over bytes.
+pub mod Accepted
+pub mod Calling
+pub mod Unique
