@@ -2,6 +2,7 @@
 //!
 //!     bench times [COUNTS]   the tables; with a folder of counts also instructions per call
 //!     bench counts           makes those counts: run it under callgrind
+//!     bench spots COUNTS     where those instructions were spent, by function
 //!     bench agree [SEEDS]    random inputs, valid and damaged, on which both sides must do the same
 //!     bench worst [SEEDS]    the slowest of random sets of 64 paths and 256 rules
 
@@ -9,6 +10,7 @@ mod inputs;
 
 use inputs::*;
 use plain::{Check, Refusal, Reply, Verdict};
+use std::collections::{BTreeMap, HashMap};
 use std::hint::black_box;
 use std::time::Instant;
 
@@ -314,10 +316,12 @@ fn callgrind(request: usize, argument: usize) {
 
 const ZERO: usize = 1;
 const DUMP_AS: usize = 3;
+const START: usize = 4;
 
 /// Makes each call once on each side. The dump after it bears the number of the case, twice, and one more for the plain side.
 fn counts(cases: &[Case]) {
     let mut out = vec![0; ROOM];
+    callgrind(START, 0);
     for (number, case) in cases.iter().enumerate() {
         for (i, side) in [Side::Proved, Side::Plain].into_iter().enumerate() {
             let name = format!("{}\0", 2 * number + i);
@@ -328,17 +332,70 @@ fn counts(cases: &[Case]) {
     }
 }
 
-/// The totals in a folder of dumps, by name.
-fn read_counts(folder: &str) -> std::collections::HashMap<usize, f64> {
-    let mut totals = std::collections::HashMap::new();
-    for file in std::fs::read_dir(folder).into_iter().flatten().flatten() {
-        let text = std::fs::read_to_string(file.path()).unwrap_or_default();
-        let word_after = |key: &str| text.lines().find_map(|line| line.strip_prefix(key)?.trim().parse().ok());
-        if let (Some(name), Some(total)) = (word_after("desc: Trigger: Client Request: "), word_after("totals: ")) {
-            totals.insert(name as usize, total);
+/// What a dump says: instructions in each function itself, without those that it called.
+type Dump = HashMap<String, f64>;
+
+fn read_dump(text: &str) -> Dump {
+    let mut names = HashMap::new();
+    let mut dump = Dump::new();
+    let mut function = String::new();
+    let mut called = false;
+    for line in text.lines() {
+        // fn=(number) name, where the name is left out if the number was met before
+        if let Some((key @ ("fn" | "cfn"), rest)) = line.split_once('=') {
+            let (number, name) = rest.split_once(' ').unwrap_or((rest, ""));
+            let known = names.entry(number.to_string()).or_insert(String::new());
+            if !name.is_empty() {
+                *known = name.to_string();
+            }
+            if key == "fn" {
+                function = known.clone();
+            }
+        } else if line.starts_with("calls=") {
+            called = true; // the next line is the cost of the call
+        } else if line.starts_with(|c: char| c.is_ascii_digit() || c == '+' || c == '-' || c == '*') {
+            if !called {
+                let cost = line.split(' ').nth(1).and_then(|n| n.parse::<f64>().ok());
+                *dump.entry(function.clone()).or_default() += cost.unwrap_or(0.0);
+            }
+            called = false;
         }
     }
-    totals
+    dump
+}
+
+/// The dumps in a folder, by the number that each bears.
+fn read_counts(folder: &str) -> HashMap<usize, Dump> {
+    let mut dumps = HashMap::new();
+    for file in std::fs::read_dir(folder).into_iter().flatten().flatten() {
+        let text = std::fs::read_to_string(file.path()).unwrap_or_default();
+        let name = text.lines().find_map(|line| line.strip_prefix("desc: Trigger: Client Request: ")?.parse().ok());
+        if let Some(name) = name {
+            dumps.insert(name, read_dump(&text));
+        }
+    }
+    dumps
+}
+
+fn total(dump: &Dump) -> f64 {
+    dump.values().sum()
+}
+
+fn spots(cases: &[Case], folder: &str) {
+    let dumps = read_counts(folder);
+    for (number, case) in cases.iter().enumerate() {
+        println!("\n{}, {}", case.input, case.what);
+        for (i, side) in ["proved", "plain"].into_iter().enumerate() {
+            let Some(dump) = dumps.get(&(2 * number + i)) else { continue };
+            let all = total(dump);
+            println!("  {side}: {all} instructions");
+            let mut functions: Vec<_> = dump.iter().collect();
+            functions.sort_by(|a, b| b.1.total_cmp(a.1));
+            for (function, cost) in functions.into_iter().take(8).filter(|(_, cost)| **cost > all / 100.0) {
+                println!("    {:5.1} %  {cost:8}  {function}", 100.0 * cost / all);
+            }
+        }
+    }
 }
 
 // ---------------------------------------------------------------------------------------------- tables
@@ -351,7 +408,7 @@ fn table(title: &str, cases: &[Case], first: usize, counts: Option<&str>, turns:
     for (number, case) in cases.iter().enumerate() {
         let [proved, plain] = time(case, turns);
         print!("| {} | {} | {proved:.0} | {plain:.0} | {:.1} |", case.input, case.what, proved / plain);
-        let count = |i| counted.get(&(2 * (first + number) + i));
+        let count = |i| counted.get(&(2 * (first + number) + i)).map(total);
         match (count(0), count(1)) {
             (Some(proved), Some(plain)) => println!(" {proved} | {plain} | {:.1} |", proved / plain),
             _ => println!(" | | |"),
@@ -380,7 +437,7 @@ fn damaged(random: &mut Random, bytes: &[u8]) -> Vec<u8> {
 /// Every call on random sets of all sizes and on damaged files; ends the program at the first difference.
 fn search_differences(seeds: u64) {
     let mut calls = 0;
-    let mut answers = std::collections::BTreeMap::new();
+    let mut answers = BTreeMap::new();
     for seed in 0..seeds {
         let random = &mut Random(1000 + seed);
         let paths = [1, 2, 3, 5, 8, 16, 40, 64][random.below(8)];
@@ -501,10 +558,11 @@ fn main() {
             table("Growth", &growth, main.len(), word(2), 300);
         }
         Some("counts") => counts(&main_cases().into_iter().chain(growth_cases()).collect::<Vec<_>>()),
+        Some("spots") => spots(&main_cases(), word(2).unwrap_or("")),
         Some("agree") => search_differences(seeds.unwrap_or(2000)),
         Some("worst") => search_worst(seeds.unwrap_or(3000)),
         _ => {
-            eprintln!("usage: bench times [COUNTS] | counts | agree [SEEDS] | worst [SEEDS]");
+            eprintln!("usage: bench times [COUNTS] | counts | spots COUNTS | agree [SEEDS] | worst [SEEDS]");
             std::process::exit(2);
         }
     }

@@ -90,17 +90,17 @@ impl<'a> Reader<'a> {
 
     #[inline(always)]
     fn number(&mut self) -> Answer<usize> {
-        match self.bytes[self.at..] {
-            [low @ 0..=127, ..] => {
+        match (self.bytes.get(self.at), self.bytes.get(self.at + 1)) {
+            (Some(&low @ 0..=127), _) => {
                 self.at += 1;
                 Ok(low as usize)
             }
-            [] | [_] => refuse(1, self.at),
-            [_, 0 | 128.., ..] => refuse(2, self.at),
-            [low, high, ..] => {
+            (Some(&low), Some(&high @ 1..=127)) => {
                 self.at += 2;
                 Ok((low & 127) as usize | (high as usize) << 7)
             }
+            (Some(_), Some(_)) => refuse(2, self.at),
+            _ => refuse(1, self.at),
         }
     }
 
