@@ -200,11 +200,15 @@ impl Rule {
 pub struct Rules {
     paths: usize,
     parent: [u8; PATHS],
-    label: [u16; PATHS],
+    name: [u32; PATHS], // parent and label in one number, so that a path is compared at once
     depth: [u8; PATHS],
     required: u64,
     count: usize,
     rules: [Rule; RULES],
+}
+
+fn name(parent: usize, label: usize) -> u32 {
+    (parent << 14 | label) as u32
 }
 
 impl Default for Rules {
@@ -213,7 +217,7 @@ impl Default for Rules {
         Rules {
             paths: 1,
             parent: [0; PATHS],
-            label: [0; PATHS],
+            name: [0; PATHS],
             depth: [1; PATHS],
             required: 0,
             count: 0,
@@ -236,10 +240,10 @@ impl Rules {
         if paths.len() >= PATHS || rules.len() > RULES || root > LABEL {
             return Err(wrong);
         }
-        table.label[0] = root as u16;
+        table.name[0] = name(0, root);
         for &(parent, label) in paths {
             sound(table.parent_fault(parent))?;
-            sound(table.label_fault(parent, label).or((label > LABEL).then_some(12)))?;
+            sound((label > LABEL).then_some(12).or(table.label_fault(parent, label)))?;
             table.add_path(parent, label);
         }
         for &path in required {
@@ -257,7 +261,7 @@ impl Rules {
         let mut table = Rules::default();
         let mut input = Reader::new(bytes, 0);
         let paths = input.tested(|n| (n == 0 || n > PATHS).then_some(3))?;
-        table.label[0] = input.number()? as u16;
+        table.name[0] = name(0, input.number()?);
         for _ in 1..paths {
             let parent = input.tested(|n| table.parent_fault(n))?;
             let label = input.tested(|n| table.label_fault(parent, n))?;
@@ -279,16 +283,17 @@ impl Rules {
 
     /// Writes the rule file and returns its length.
     pub fn write(&self, out: &mut [u8]) -> Answer<usize> {
-        let labels = &self.label[..self.paths];
+        let labels = self.name[..self.paths].iter().map(|&name| name as usize & LABEL);
         let required = self.required.count_ones() as usize;
-        let long = labels.iter().filter(|&&label| label > 127).count();
+        let long = labels.clone().filter(|&label| label > 127).count();
         let length = 2 * self.paths + long + 1 + required + size(self.count) + 3 * self.count;
         let mut out = Writer::new(out, length)?;
         out.put(self.paths);
-        out.put(labels[0] as usize);
-        for (&parent, &label) in self.parent[1..].iter().zip(&labels[1..]) {
-            out.put(parent as usize);
-            out.put(label as usize);
+        for (x, label) in labels.enumerate() {
+            if x > 0 {
+                out.put(self.parent(x));
+            }
+            out.put(label);
         }
         out.put(required);
         for path in Members(self.required) {
@@ -318,9 +323,7 @@ impl Rules {
     }
 
     fn label_fault(&self, parent: usize, label: usize) -> Option<u8> {
-        let earlier = self.parent[1..self.paths].iter().zip(&self.label[1..self.paths]);
-        let repeated = earlier.fold(false, |found, (&p, &l)| found | (p as usize == parent && l as usize == label));
-        repeated.then_some(6)
+        self.name[1..self.paths].contains(&name(parent, label)).then_some(6)
     }
 
     fn required_fault(&self, path: usize) -> Option<u8> {
@@ -334,7 +337,7 @@ impl Rules {
     fn add_path(&mut self, parent: usize, label: usize) {
         let x = self.paths;
         self.parent[x] = parent as u8;
-        self.label[x] = label as u16;
+        self.name[x] = name(parent, label);
         self.depth[x] = self.depth[parent] + 1;
         self.paths += 1;
     }
