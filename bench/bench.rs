@@ -18,9 +18,27 @@ use std::time::Instant;
 
 mod proved {
     extern "C" {
-        pub fn bozdurmek_rewrite(rules: *const u8, rules_len: usize, out: *mut u8, out_len: usize, answer: *mut [usize; 3]);
-        pub fn bozdurmek_check(rules: *const u8, rules_len: usize, document: *const u8, document_len: usize, answer: *mut [usize; 3]);
-        pub fn bozdurmek_consistency(rules: *const u8, rules_len: usize, out: *mut u8, out_len: usize, answer: *mut [usize; 3]);
+        pub fn bozdurmek_rewrite(
+            rules: *const u8,
+            rules_len: usize,
+            out: *mut u8,
+            out_len: usize,
+            answer: *mut [usize; 3],
+        );
+        pub fn bozdurmek_check(
+            rules: *const u8,
+            rules_len: usize,
+            document: *const u8,
+            document_len: usize,
+            answer: *mut [usize; 3],
+        );
+        pub fn bozdurmek_consistency(
+            rules: *const u8,
+            rules_len: usize,
+            out: *mut u8,
+            out_len: usize,
+            answer: *mut [usize; 3],
+        );
         pub fn bozdurmek_ask(
             rules: *const u8,
             rules_len: usize,
@@ -56,9 +74,13 @@ fn call_proved(rules: &[u8], call: &Call, out: &mut [u8]) -> [usize; 3] {
     unsafe {
         match call {
             Call::Rewrite => proved::bozdurmek_rewrite(from, length, to, room, &mut answer),
-            Call::Check(document) => proved::bozdurmek_check(from, length, document.as_ptr(), document.len(), &mut answer),
+            Call::Check(document) => {
+                proved::bozdurmek_check(from, length, document.as_ptr(), document.len(), &mut answer)
+            }
             Call::Consistency => proved::bozdurmek_consistency(from, length, to, room, &mut answer),
-            &Call::Ask(kind, left, right) => proved::bozdurmek_ask(from, length, kind, left, right, to, room, &mut answer),
+            &Call::Ask(kind, left, right) => {
+                proved::bozdurmek_ask(from, length, kind, left, right, to, room, &mut answer)
+            }
         }
     }
     answer
@@ -78,10 +100,12 @@ fn call_plain(rules: &[u8], call: &Call, out: &mut [u8]) -> [usize; 3] {
             Verdict::Consistent(n) => [1, n, 0],
             Verdict::Inconsistent(n) => [2, n, 0],
         }),
-        &Call::Ask(kind, left, right) => plain::ask_bytes(rules, kind, left, right, out).map_or_else(refused, |reply| match reply {
-            Reply::Yes(n) => [1, n, 0],
-            Reply::No(n) => [2, n, 0],
-        }),
+        &Call::Ask(kind, left, right) => {
+            plain::ask_bytes(rules, kind, left, right, out).map_or_else(refused, |reply| match reply {
+                Reply::Yes(n) => [1, n, 0],
+                Reply::No(n) => [2, n, 0],
+            })
+        }
     }
 }
 
@@ -102,10 +126,16 @@ fn agree(rules: &[u8], call: &Call) -> ([usize; 3], Vec<u8>) {
         let proved = run(Side::Proved, rules, call, &mut buffers[0]);
         let plain = run(Side::Plain, rules, call, &mut buffers[1]);
         if proved != plain || buffers[0] != buffers[1] {
-            println!("DIFFERS\n  rules {rules:?}\n  call {call:?}\n  room {room}\n  proved {proved:?}\n  plain  {plain:?}");
+            println!(
+                "DIFFERS\n  rules {rules:?}\n  call {call:?}\n  room {room}\n  proved {proved:?}\n  plain  {plain:?}"
+            );
             let [a, b] = &buffers;
             if let Some(at) = a.iter().zip(b).position(|(a, b)| a != b) {
-                println!("  first at byte {at}: proved {:?}, plain {:?}", &a[at..a.len().min(at + 20)], &b[at..b.len().min(at + 20)]);
+                println!(
+                    "  first at byte {at}: proved {:?}, plain {:?}",
+                    &a[at..a.len().min(at + 20)],
+                    &b[at..b.len().min(at + 20)]
+                );
             }
             std::process::exit(1);
         }
@@ -234,7 +264,13 @@ fn main_cases() -> Vec<Case> {
 
     let set = spine().bytes();
     let document = witness(&set);
-    for call in [Call::Rewrite, Call::Check(document.clone()), Call::Check(padded(&document, 512)), Call::Check(dense_document(2, 3)), Call::Consistency] {
+    for call in [
+        Call::Rewrite,
+        Call::Check(document.clone()),
+        Call::Check(padded(&document, 512)),
+        Call::Check(dense_document(2, 3)),
+        Call::Consistency,
+    ] {
         cases.push(case("spine: 64 paths, 256 rules", &set, call));
     }
     for call in [Call::Ask(1, 1, 63), Call::Ask(2, 1, 63)] {
@@ -244,9 +280,11 @@ fn main_cases() -> Vec<Case> {
     cases.push(case("chain: 64 paths, 256 rules", &chain().bytes(), Call::Ask(1, 1, 63)));
     cases.push(case("dead chain: 64 paths, 256 rules", &dead_chain().bytes(), Call::Ask(1, 1, 63)));
     cases.push(case("two chains: 64 paths, 256 rules", &two_chains().bytes(), Call::Ask(2, 1, 21)));
+    for call in [Call::Consistency, Call::Ask(1, 7, 63)] {
+        cases.push(case("ring: 64 paths, 256 rules", &ring().bytes(), call));
+    }
     cases
 }
-
 
 /// How the calls grow with the rules (the first so many of one set) and with the paths (a set each).
 fn growth_cases() -> Vec<Case> {
@@ -446,10 +484,12 @@ fn search_differences(seeds: u64) {
         let mut set = random_set(random, paths, rules, recipe);
         let parents = set.parents.clone();
         if random.chance(30) {
-            set.labels = (0..paths).map(|_| random.below(1 + paths * paths)).collect(); // may repeat
+            set.labels = (0..paths).map(|_| random.below(1 + paths * paths)).collect();
+            // may repeat
         }
         if random.chance(5) {
-            set.parents = (0..paths).map(|x| x.saturating_sub(1 + random.below(2))).collect(); // may be too deep
+            set.parents = (0..paths).map(|x| x.saturating_sub(1 + random.below(2))).collect();
+            // may be too deep
         }
         let set = set.bytes();
         let mut see = |rules: &[u8], call: Call| {
@@ -507,20 +547,22 @@ fn search_differences(seeds: u64) {
 
 /// The slowest consistency and question, on the proved side, of random sets of 64 paths and 256 rules.
 fn search_worst(seeds: u64) {
-    let quick = |rules: &[u8], call: &Call| {
-        let mut out = vec![0; ROOM];
+    const KEPT: usize = 6;
+    let mut out = vec![0; ROOM];
+    let mut quick = |rules: &[u8], call: &Call| {
         let once = |_| {
             let start = Instant::now();
             black_box(call_proved(black_box(rules), black_box(call), black_box(&mut out)));
-            start.elapsed().as_nanos() as u64
+            start.elapsed().as_nanos()
         };
-        (0..5).map(once).min().unwrap()
+        (0..2).map(once).min().unwrap()
     };
-    let mut slowest: [Vec<(u64, u64, Case)>; 2] = Default::default();
+    let mut slowest: [Vec<(u128, Case)>; 2] = Default::default();
     for seed in 0..seeds {
         let random = &mut Random(1_000_000 + seed);
         let recipe = random_recipe(random);
-        let set = if random.chance(50) { random_set(random, 64, 256, recipe) } else { consistent_set(random, 64, 256, recipe) }.bytes();
+        let make = if random.chance(50) { random_set } else { consistent_set };
+        let set = make(random, 64, 256, recipe).bytes();
         let mut calls = vec![(0, Call::Consistency)];
         for _ in 0..5 {
             calls.push((1, Call::Ask(1 + random.below(3), random.below(64), random.below(64))));
@@ -528,18 +570,18 @@ fn search_worst(seeds: u64) {
         for (list, call) in calls {
             let took = quick(&set, &call);
             let slow = &mut slowest[list];
-            if slow.len() < 5 || took > slow.last().unwrap().0 {
-                slow.push((took, seed, case(&format!("seed {seed}, {recipe:?}"), &set, call)));
-                slow.sort_by_key(|&(took, _, _)| std::cmp::Reverse(took));
-                slow.truncate(5);
+            if slow.len() < KEPT || took > slow[KEPT - 1].0 {
+                slow.push((took, case(&format!("seed {seed}, {:?}", recipe.shape), &set, call)));
+                slow.sort_by_key(|&(took, _)| std::cmp::Reverse(took));
+                slow.truncate(KEPT);
             }
         }
     }
-    for (title, slow) in ["Slowest consistency", "Slowest question"].into_iter().zip(&mut slowest) {
+    for (title, slow) in ["Slowest consistency", "Slowest question"].into_iter().zip(&slowest) {
         println!("\n{title} of {seeds} random sets of 64 paths and 256 rules\n");
         println!("| input | call | proved ns | plain ns | ratio |\n|---|---|---:|---:|---:|");
         // measured again, with care
-        let mut rows: Vec<_> = slow.iter().map(|(_, _, case)| (time(case, 200), case)).collect();
+        let mut rows: Vec<_> = slow.iter().map(|(_, case)| (time(case, 100), case)).collect();
         rows.sort_by(|a, b| b.0[0].total_cmp(&a.0[0]));
         for ([proved, plain], case) in rows.iter().take(3) {
             println!("| {} | {} | {proved:.0} | {plain:.0} | {:.1} |", case.input, case.what, proved / plain);

@@ -54,7 +54,11 @@ pub fn decode(bytes: &[u8]) -> Vec<usize> {
     let mut numbers = Vec::new();
     let mut rest = bytes.iter();
     while let Some(&low) = rest.next() {
-        numbers.push(if low < 128 { low as usize } else { low as usize - 128 + ((*rest.next().unwrap() as usize) << 7) });
+        numbers.push(if low < 128 {
+            low as usize
+        } else {
+            low as usize - 128 + ((*rest.next().unwrap() as usize) << 7)
+        });
     }
     numbers
 }
@@ -139,7 +143,8 @@ pub fn random_set(random: &mut Random, paths: usize, rules: usize, recipe: Recip
             IMPLICATION
         };
         let left = random.below(paths);
-        let right = if random.chance(recipe.near) { (left + 1 + random.below(4)).min(paths - 1) } else { random.below(paths) };
+        let right =
+            if random.chance(recipe.near) { (left + 1 + random.below(4)).min(paths - 1) } else { random.below(paths) };
         set.rules.push((kind, left, right));
     }
     set
@@ -244,6 +249,15 @@ pub fn two_chains() -> Set {
         }
     }
     set.rules.push((ABSENCE, 20, 40));
+    set
+}
+
+/// Seven paths one below the other, 57 leaves under the last, and a ring of implications through all leaves, given again and
+/// again: from every path every leaf is reachable, by walks as long as they can be.
+pub fn ring() -> Set {
+    let mut set = Set::new(tree(&mut Random(0), PATHS, Shape::Spine));
+    let once: Vec<_> = (6..PATHS).map(|x| (IMPLICATION, x, if x + 1 < PATHS { x + 1 } else { 7 })).collect();
+    set.rules = once.into_iter().cycle().take(RULES).collect();
     set
 }
 
