@@ -165,15 +165,18 @@ struct Case {
 }
 
 fn said(call: &Call, answer: [usize; 3], written: &[u8]) -> String {
-    let parts = || decode(written)[0];
+    let parts = |document: &[u8]| match decode(document)[0] {
+        1 => "1 part".to_string(),
+        n => format!("{n} parts"),
+    };
     let bytes = written.len();
     match (call, answer[0]) {
         (Call::Rewrite, 1) => format!("read and write {bytes} bytes"),
         (Call::Check(document), n) => {
             let verdict = ["refused", "obeys", "broken", "missing"][n];
-            format!("check {} parts, {} bytes: {verdict}", decode(document)[0], document.len())
+            format!("check {}, {} bytes: {verdict}", parts(document), document.len())
         }
-        (Call::Consistency, 1) => format!("consistent, {} parts, {bytes} bytes", parts()),
+        (Call::Consistency, 1) => format!("consistent, {}, {bytes} bytes", parts(written)),
         (Call::Consistency, 2) => format!("inconsistent, evidence {bytes} bytes"),
         (&Call::Ask(kind, p, q), n) => {
             let asked = format!("{p} {} {q}", ["", ">", "x", "<>"][kind]);
@@ -183,7 +186,7 @@ fn said(call: &Call, answer: [usize; 3], written: &[u8]) -> String {
                     let by = ["", "direct", "dead", "pair"][numbers[0]];
                     format!("ask {asked}: yes, {by}, {bytes} bytes")
                 }
-                _ => format!("ask {asked}: no, {} parts, {bytes} bytes", parts()),
+                _ => format!("ask {asked}: no, {}, {bytes} bytes", parts(written)),
             }
         }
         _ => format!("refused {} {}", answer[1], answer[2]),
@@ -443,7 +446,7 @@ fn spots(cases: &[Case], folder: &str) {
             println!("  {side}: {all} instructions");
             let mut functions: Vec<_> = dump.iter().collect();
             functions.sort_by(|a, b| b.1.total_cmp(a.1));
-            for (function, cost) in functions.into_iter().take(8).filter(|(_, cost)| **cost > all / 100.0) {
+            for (function, cost) in functions.into_iter().take(8).filter(|(_, cost)| **cost > all / 1000.0) {
                 println!("    {:5.1} %  {cost:8}  {function}", 100.0 * cost / all);
             }
         }
@@ -578,7 +581,8 @@ fn search_differences(seeds: u64) {
 
 /// The slowest consistency and question, on the proved side, of random sets of 64 paths and 256 rules.
 fn search_worst(seeds: u64) {
-    const KEPT: usize = 6;
+    // two calls rank roughly: so many are kept that the slowest are among them, and these are measured again
+    const KEPT: usize = 40;
     let mut out = vec![0; ROOM];
     let mut quick = |rules: &[u8], call: &Call| {
         let once = |_| {
@@ -611,10 +615,9 @@ fn search_worst(seeds: u64) {
     for (title, slow) in ["Slowest consistency", "Slowest question"].into_iter().zip(&slowest) {
         println!("\n{title} of {seeds} random sets of 64 paths and 256 rules\n");
         println!("| input | call | proved ns | plain ns | ratio |\n|---|---|---:|---:|---:|");
-        // measured again, with care
-        let mut rows: Vec<_> = slow.iter().map(|(_, case)| (time(case, 100), case)).collect();
+        let mut rows: Vec<_> = slow.iter().map(|(_, case)| (time(case, 60), case)).collect();
         rows.sort_by(|a, b| b.0[0].total_cmp(&a.0[0]));
-        for ([proved, plain], case) in rows.iter().take(3) {
+        for ([proved, plain], case) in rows.iter().take(5) {
             println!("| {} | {} | {proved:.0} | {plain:.0} | {:.1} |", case.input, case.what, proved / plain);
         }
     }
