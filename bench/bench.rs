@@ -4,7 +4,9 @@
 //!     bench counts           makes those counts: run it under callgrind
 //!     bench spots COUNTS     where those instructions were spent, by function
 //!     bench agree [SEEDS]    random inputs, valid and damaged, on which both sides must do the same
-//!     bench worst [SEEDS]    the slowest of random sets of 64 paths and 256 rules
+//!     bench search [SEEDS]   the calls that seem slowest of random sets of 64 paths and 256 rules, as `SEED CALL` lines
+//!     bench recount FILE     as counts, for the calls in such a file
+//!     bench worst FILE [COUNTS]   the slowest of them, by instructions if there are counts, else by time
 
 mod inputs;
 
@@ -467,24 +469,29 @@ fn best_times(cases: &[Case]) -> Vec<[f64; 2]> {
     best
 }
 
+const HEAD: &str = "| input | call | proved ns | plain ns | ratio | proved instr. | plain instr. | ratio |
+|---|---|---:|---:|---:|---:|---:|---:|";
+
+fn print_row(case: &Case, [proved, plain]: [f64; 2], counts: Option<(f64, f64)>) {
+    print!("| {} | {} | {proved:.0} | {plain:.0} | {:.1} |", case.input, case.what, proved / plain);
+    match counts {
+        Some((proved, plain)) => println!(" {proved} | {plain} | {:.1} |", proved / plain),
+        None => println!(" | | |"),
+    }
+}
+
 fn tables(counts: Option<&str>) {
     let (main, growth) = (main_cases(), growth_cases());
     let counted = counts.map(read_counts).unwrap_or_default();
     let many = main.len();
     let cases: Vec<Case> = main.into_iter().chain(growth).collect();
     let times = best_times(&cases);
-    for (number, (case, [proved, plain])) in cases.iter().zip(times).enumerate() {
+    let count = |number: usize, i: usize| counted.get(&(2 * number + i)).map(total);
+    for (number, (case, times)) in cases.iter().zip(times).enumerate() {
         if number == 0 || number == many {
-            println!("\n{}\n", if number == 0 { "Calls" } else { "Growth" });
-            println!("| input | call | proved ns | plain ns | ratio | proved instr. | plain instr. | ratio |");
-            println!("|---|---|---:|---:|---:|---:|---:|---:|");
+            println!("\n{}\n\n{HEAD}", if number == 0 { "Calls" } else { "Growth" });
         }
-        print!("| {} | {} | {proved:.0} | {plain:.0} | {:.1} |", case.input, case.what, proved / plain);
-        let count = |i| counted.get(&(2 * number + i)).map(total);
-        match (count(0), count(1)) {
-            (Some(proved), Some(plain)) => println!(" {proved} | {plain} | {:.1} |", proved / plain),
-            _ => println!(" | | |"),
-        }
+        print_row(case, times, count(number, 0).zip(count(number, 1)));
     }
 }
 
@@ -579,46 +586,77 @@ fn search_differences(seeds: u64) {
     }
 }
 
-/// The slowest consistency and question, on the proved side, of random sets of 64 paths and 256 rules.
-fn search_worst(seeds: u64) {
-    // two calls rank roughly: so many are kept that the slowest are among them, and these are measured again
-    const KEPT: usize = 40;
+/// The set of 64 paths and 256 rules drawn from a seed, the shape of its tree, and the calls to try: consistency first.
+fn drawn(seed: u64) -> (Shape, Vec<u8>, Vec<Call>) {
+    let random = &mut Random(1_000_000 + seed);
+    let recipe = random_recipe(random);
+    let make = if random.chance(50) { random_set } else { consistent_set };
+    let set = make(random, 64, 256, recipe).bytes();
+    let mut calls = vec![Call::Consistency];
+    for _ in 0..5 {
+        calls.push(Call::Ask(1 + random.below(3), random.below(64), random.below(64)));
+    }
+    (recipe.shape, set, calls)
+}
+
+/// Prints seed and number of the calls that are slowest on the proved side. Two calls each rank roughly: so many are kept
+/// that the slowest are among them.
+fn search(seeds: u64) {
+    const KEPT: usize = 60;
     let mut out = vec![0; ROOM];
-    let mut quick = |rules: &[u8], call: &Call| {
-        let once = |_| {
-            let start = now();
-            black_box(call_proved(black_box(rules), black_box(call), black_box(&mut out)));
-            now() - start
-        };
-        (0..2).map(once).fold(f64::MAX, f64::min)
-    };
-    let mut slowest: [Vec<(f64, Case)>; 2] = Default::default();
+    let mut slowest: [Vec<(f64, u64, usize)>; 2] = Default::default();
     for seed in 0..seeds {
-        let random = &mut Random(1_000_000 + seed);
-        let recipe = random_recipe(random);
-        let make = if random.chance(50) { random_set } else { consistent_set };
-        let set = make(random, 64, 256, recipe).bytes();
-        let mut calls = vec![(0, Call::Consistency)];
-        for _ in 0..5 {
-            calls.push((1, Call::Ask(1 + random.below(3), random.below(64), random.below(64))));
-        }
-        for (list, call) in calls {
-            let took = quick(&set, &call);
-            let slow = &mut slowest[list];
-            if slow.len() < KEPT || took > slow[KEPT - 1].0 {
-                slow.push((took, case(&format!("seed {seed}, {:?}", recipe.shape), &set, call)));
+        let (_, set, calls) = drawn(seed);
+        for (number, call) in calls.iter().enumerate() {
+            let once = |_| {
+                let start = now();
+                black_box(call_proved(black_box(&set), black_box(call), black_box(&mut out)));
+                now() - start
+            };
+            let took = (0..2).map(once).fold(f64::MAX, f64::min);
+            let slow = &mut slowest[number.min(1)];
+            slow.push((took, seed, number));
+            if slow.len() > 2 * KEPT {
                 slow.sort_by(|a, b| b.0.total_cmp(&a.0));
                 slow.truncate(KEPT);
             }
         }
     }
-    for (title, slow) in ["Slowest consistency", "Slowest question"].into_iter().zip(&slowest) {
-        println!("\n{title} of {seeds} random sets of 64 paths and 256 rules\n");
-        println!("| input | call | proved ns | plain ns | ratio |\n|---|---|---:|---:|---:|");
-        let mut rows: Vec<_> = slow.iter().map(|(_, case)| (time(case, 60), case)).collect();
-        rows.sort_by(|a, b| b.0[0].total_cmp(&a.0[0]));
-        for ([proved, plain], case) in rows.iter().take(5) {
-            println!("| {} | {} | {proved:.0} | {plain:.0} | {:.1} |", case.input, case.what, proved / plain);
+    for mut slow in slowest {
+        slow.sort_by(|a, b| b.0.total_cmp(&a.0));
+        for (_, seed, number) in slow.into_iter().take(KEPT) {
+            println!("{seed} {number}");
+        }
+    }
+}
+
+/// The calls in a file that a search made.
+fn found(file: &str) -> Vec<Case> {
+    let text = std::fs::read_to_string(file).expect("the file of a search");
+    let numbers: Vec<u64> = text.split_whitespace().map(|n| n.parse().expect("a number")).collect();
+    let one = |pair: &[u64]| {
+        let (shape, set, calls) = drawn(pair[0]);
+        case(&format!("seed {}, {shape:?}", pair[0]), &set, calls[pair[1] as usize].clone())
+    };
+    numbers.chunks_exact(2).map(one).collect()
+}
+
+fn worst(cases: &[Case], counts: Option<&str>) {
+    const SHOWN: usize = 5;
+    let counted = counts.map(read_counts).unwrap_or_default();
+    let count = |number: usize, i: usize| counted.get(&(2 * number + i)).map(total);
+    for (title, questions) in [("Slowest consistency", false), ("Slowest question", true)] {
+        let of_kind = |&number: &usize| matches!(cases[number].call, Call::Ask(..)) == questions;
+        let mut rows: Vec<usize> = (0..cases.len()).filter(of_kind).collect();
+        let mut cost: HashMap<usize, f64> = HashMap::new();
+        for &row in &rows {
+            cost.insert(row, count(row, 0).unwrap_or_else(|| time(&cases[row], 20)[0]));
+        }
+        rows.sort_by(|a, b| cost[b].total_cmp(&cost[a]));
+        rows.truncate(SHOWN);
+        println!("\n{title}\n\n{HEAD}");
+        for row in rows {
+            print_row(&cases[row], time(&cases[row], 200), count(row, 0).zip(count(row, 1)));
         }
     }
 }
@@ -632,9 +670,11 @@ fn main() {
         Some("counts") => counts(&main_cases().into_iter().chain(growth_cases()).collect::<Vec<_>>()),
         Some("spots") => spots(&main_cases(), word(2).unwrap_or("")),
         Some("agree") => search_differences(seeds.unwrap_or(2000)),
-        Some("worst") => search_worst(seeds.unwrap_or(3000)),
+        Some("search") => search(seeds.unwrap_or(3000)),
+        Some("recount") => counts(&found(word(2).unwrap_or(""))),
+        Some("worst") => worst(&found(word(2).unwrap_or("")), word(3)),
         _ => {
-            eprintln!("usage: bench times [COUNTS] | counts | spots COUNTS | agree [SEEDS] | worst [SEEDS]");
+            eprintln!("usage: bench times|counts|spots|agree|search|recount|worst, as the head of bench.rs says");
             std::process::exit(2);
         }
     }
