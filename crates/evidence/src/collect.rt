@@ -1,5 +1,5 @@
 // Evidence collected in numbers, and whether there is any.
-ghost use Prim.Native.Nat.{ℕ, _≤_, _<_};
+ghost use Prim.Native.Nat.{_≤_, _<_};
 ghost use mathlib.Core.Path.{_≡_};
 ghost use mathlib.Core.Bool.{true, false};
 ghost use mathlib.Core.List.{_++_};
@@ -19,11 +19,11 @@ use crate::choose::pair_rule;
 use crate::choose::pair_side;
 use crate::choose::reacher;
 use crate::choose::root_rule;
-use reachable::reach::reach;
 use crate::seek::put_walk;
+use files::sets;
+use reachable::reach::reach;
 use reachable::steps::context;
 use reachable::steps::wide;
-use files::sets;
 
 // Direct evidence stored from `start` on; the place after it.
 fn put_direct(

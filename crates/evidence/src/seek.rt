@@ -1,5 +1,5 @@
 // The written walk: a search backwards in layers from the goal, then onward by the least code into each layer.
-ghost use Prim.Native.Nat.{ℕ, _+_, _*_, _≤_, _<_};
+ghost use Prim.Native.Nat.{_+_, _*_, _≤_, _<_};
 ghost use mathlib.Core.Path.{_≡_};
 ghost use mathlib.Core.Bool.{_&&_};
 ghost use lib.Dec.{eqb};
@@ -11,12 +11,12 @@ ghost use Rattle.theory.specs.Search.{ruleMove, leastMove, forward, writtenWalk
 ghost use Rattle.theory.specs.Evidence.{walkNumbers};
 ghost use Rattle.reachable.specs.Arrays.{parentOf, ruleOf, ruleList, Sound};
 ghost use Rattle.evidence.specs.Layers.{turnOf, MoveIs, nearerOf, Sought, Stored};
+use files::sets;
 use reachable::steps::alone;
 use reachable::steps::one_step;
 use reachable::steps::parent_of;
 use reachable::steps::subtree;
 use reachable::steps::wide;
-use files::sets;
 
 // A step's code and the path to which it leads.
 struct Move {

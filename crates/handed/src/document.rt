@@ -21,6 +21,7 @@ use files::write::Written;
 
 // The two passes over a document: one counts its bytes, the other stores them.
 const COUNT: bool = false;
+
 const STORE: bool = true;
 
 // The parts on path c with one goal of a set.

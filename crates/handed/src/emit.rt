@@ -11,9 +11,9 @@ use crate::numbering::bit_of;
 use crate::numbering::child_paths;
 use crate::numbering::number_of;
 use crate::numbering::place_at;
-use reachable::steps::subtree;
 use files::number;
 use files::sets;
+use reachable::steps::subtree;
 
 // A number emitted at `at`; the place after it.
 pub(crate) fn emit(store: bool, n: usize, out: &mut [u8], at: usize) -> usize

@@ -6,10 +6,10 @@ ghost use Rattle.documents.specs.Paths.{Descending, towards};
 ghost use Rattle.reachable.specs.Arrays.{parentOf, Parents};
 ghost use Rattle.theory.specs.Handed.{highest, gather, coverEach, fillWord, kidWord, oneKids, climbAll, severalb, allKids, kidsAt, goalRows};
 ghost use Rattle.handed.specs.Writer.{wordFor, Tabled, startOf, chainOf, rootOf, goalsHere};
+use files::sets;
 use reachable::reach::reach;
 use reachable::steps::parent_of;
 use reachable::steps::subtree;
-use files::sets;
 
 // What is reachable from x inside c, of a path of the table.
 fn word_for(depth: &[u8; 64], table: &[u64; 512], count: usize, c: usize, x: usize) -> u64

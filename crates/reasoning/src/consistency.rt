@@ -1,21 +1,18 @@
-// Whether rules are consistent with the required paths.
-ghost use Prim.Native.Nat.{_≤_};
 ghost use mathlib.Core.Path.{_≡_};
-ghost use mathlib.Core.Bool.{true, false};
-ghost use Rattle.reasoning.specs.Calls.{answerOf, askedOf, DecidesConsistency};
+ghost use Rattle.reasoning.specs.Calls.{answerOf, DecidesConsistency};
 ghost use Rattle.reasoning.specs.Lent.{Passed, Witnessed, Conflicting};
 use evidence::choose::clashing;
 use evidence::collect::consistent;
 use evidence::collect::put_inconsistent;
-use handed::document::write_document;
-use reachable::reach::depths;
-use reachable::reach::reach_table;
 use files::rules::Rules;
 use files::rules::parents;
 use files::sets;
 use files::valid::valid_table;
 use files::write::Written;
 use files::write::put_numbers;
+use handed::document::write_document;
+use reachable::reach::depths;
+use reachable::reach::reach_table;
 
 // Consistent with a document of so many bytes, inconsistent with evidence of so many bytes, or the refusal's number and place.
 pub enum Verdict {

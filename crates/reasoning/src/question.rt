@@ -1,22 +1,20 @@
-// Questions to the rules.
-ghost use Prim.Native.Nat.{ℕ};
 ghost use mathlib.Core.Path.{_≡_};
 ghost use Rattle.reasoning.specs.Calls.{answerOf, askable, AnswersQuestion};
-ghost use Rattle.reasoning.specs.Lent.{Passed, Affirmed, Denied, Countered, PassedQuestion};
+ghost use Rattle.reasoning.specs.Lent.{Affirmed, Denied, Countered, PassedQuestion};
 use evidence::choose::clashing;
 use evidence::collect::implies;
 use evidence::collect::put_evidence;
 use evidence::collect::yes;
-use handed::document::write_document;
-use reachable::reach::depths;
-use reachable::reach::reach_table;
-use reachable::steps::context;
 use files::rules::Rules;
 use files::rules::parents;
 use files::sets;
 use files::valid::valid_table;
 use files::write::Written;
 use files::write::put_numbers;
+use handed::document::write_document;
+use reachable::reach::depths;
+use reachable::reach::reach_table;
+use reachable::steps::context;
 
 // Yes with evidence of so many bytes, no with a counter-document of so many bytes, or the refusal's number and place.
 pub enum Reply {
