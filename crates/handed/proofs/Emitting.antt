@@ -170,8 +170,6 @@ module _ (left next count : ℕ) (some : left ≡ 0 → ⊥) where
 
 pub ruleset set-laws = (set-less, set-fits, set-under, set-inner, set-low)
 
-pub ruleset each-laws = (left-start, each-on, each-end, set-laws)
-
 -- ---- the numbers of children
 
 pub number-is : (whole : ℕ) (rows places : List ℕ) (k g b s i p : ℕ) → b ≡ bit whole k → s ≡ sizeBelow (getD rows k 0) g → p ≡ getD places k 0
