@@ -200,10 +200,6 @@ module _ {parent : ℕ → ℕ} (desc : Descending parent) where
   pub contextOf-self : (p : ℕ) → contextOf parent p p ≡ p
   contextOf-self p = context-is (context-prefix (below-refl p))
 
-  -- the computed context of a path and a prefix of it
-  pub contextOf-prefix : {p q : ℕ} → Below parent p q → contextOf parent p q ≡ p
-  contextOf-prefix h = context-is (context-prefix h)
-
   -- the computed context does not depend on the order
   pub contextOf-sym : (p q : ℕ) → contextOf parent p q ≡ contextOf parent q p
   contextOf-sym p q = context-is (context-sym (contextOf-context q p))
@@ -267,11 +263,6 @@ module _ {parent : ℕ → ℕ} (desc : Descending parent) where
       pick (inr b) =
           let l : c < towards parent c g = strictly-lt (towards-strictly (strictly-trans s h)) in
           absurd (omega (arith, below-le b))
-
-  -- what is below c's child towards g is below c on the same side
-  pub towards-same : {c g x : ℕ} → StrictlyBelow parent c g → Below parent (towards parent c g) x
-      → towards parent c x ≡ towards parent c g
-  towards-same s h = sym (towards-unique (towards-strictly s) (towards-parent s) h)
 
   climbs-root : (fuel : ℕ) → climbs parent fuel 0 ≡ 1
   unfolding climbs

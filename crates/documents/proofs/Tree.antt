@@ -3,7 +3,7 @@ use Prim.Native.Nat.{ℕ, _<_}
 use mathlib.Core.Path.{_≡_, refl, sym, subst}
 use mathlib.Core.Logic.{_⊎_, inl, inr}
 use native.Mathlib.Omega.{arith}
-use Rattle.documents.specs.Paths.{Below, same, StrictlyBelow, Descending}
+use Rattle.documents.specs.Paths.{Below, StrictlyBelow, Descending}
 use Rattle.documents.specs.Tree.{
   Forest,
   none,
@@ -114,19 +114,6 @@ module _ {parent : ℕ → ℕ} (desc : Descending parent) where
       record { below = strictly-trans desc (child-strictly z e) (q .below .below); small = q .small; under = q .under }
   under-placed (child z s e k r) (beside n) = under-placed r n
 
-  -- what stands under p holds only paths strictly below p
-  pub under-strictly : {count p x : ℕ} {f : Forest} → Under parent count p f → Holds f x → StrictlyBelow parent p x
-  under-strictly {x = x} {f = f} d h = under-placed d (holds-node f x h .1) .below
-
-  -- what stands under p holds only paths of the table
-  pub under-small : {count p x : ℕ} {f : Forest} → Under parent count p f → Holds f x → x < count
-  under-small {x = x} {f = f} d h = under-placed d (holds-node f x h .1) .small
-
-  -- a node holds only paths below its own
-  pub nodeHolds-below : {count c x : ℕ} {u : Forest} → Under parent count c u → NodeHolds c u x → Below parent c x
-  nodeHolds-below d (itself e) = same e
-  nodeHolds-below d (descendant h) = under-strictly d h .below
-
   -- a prefix of a child of p is the child or is above p
   child-prefix : {p k m : ℕ} → parent k ≡ p → StrictlyBelow parent p m → Below parent m k → m ≡ k
   child-prefix {p} {k} {m} e s h = pick (below-step h)
@@ -188,13 +175,6 @@ module _ {parent : ℕ → ℕ} (desc : Descending parent) where
   pub document-under : {count x : ℕ} {u d : Forest} → Document parent count d → Node x u d → Under parent count x u
   document-under (document k) here = k
   document-under (document k) (deeper n) = under-placed k n .under
-
-  -- every path that a document of a table with a root holds is in the table
-  pub document-small : {count x : ℕ} {d : Forest} → 0 < count → Document parent count d → Holds d x → x < count
-  unfolding Holds
-  document-small z (document k) (inl e) = omega arith
-  document-small z (document k) (inr (inl h)) = under-small k h
-  document-small z (document k) (inr (inr h)) = absurd h
 
   -- a document's node on the root holds everything that the document holds
   pub document-root : {count y : ℕ} {u d : Forest} → Document parent count d → Node 0 u d → Holds d y → NodeHolds 0 u y

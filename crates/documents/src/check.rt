@@ -1,13 +1,10 @@
 // Checking a document against the rules.
-ghost use Prim.Native.Nat.{ℕ, _+_, _≤_, _<_};
+ghost use Prim.Native.Nat.{_+_, _≤_, _<_};
 ghost use mathlib.Core.Path.{_≡_};
-ghost use mathlib.Core.Bool.{true};
-ghost use mathlib.Core.List.{List, [], _∷_};
-ghost use lib.ListN.{length, getD, replicate};
+ghost use lib.ListN.{getD};
 ghost use Rattle.files.specs.Format.{runAll};
 ghost use Rattle.files.specs.Rules.{rulesOf, rulesFrom};
 ghost use Rattle.files.specs.Table.{parentIn};
-ghost use Rattle.files.specs.Writing.{tablePasses};
 ghost use Rattle.documents.specs.Paths.{contextOf};
 ghost use Rattle.documents.specs.PartList.{documentFile};
 ghost use Rattle.documents.specs.Checking.{breaks, brokenFrom, held, orMissing, verdict, judged, CheckDocument};

@@ -1,5 +1,5 @@
 // The parent of a path, and the context of two paths.
-ghost use Prim.Native.Nat.{ℕ, _+_, _-_, _<_};
+ghost use Prim.Native.Nat.{_+_, _<_};
 ghost use mathlib.Core.Path.{_≡_};
 ghost use Rattle.documents.specs.Paths.{meet, contextOf};
 ghost use Rattle.documents.specs.Reading.{parentAt};

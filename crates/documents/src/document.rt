@@ -1,11 +1,11 @@
 // Reading a document's part list: every number is tested as soon as it is read.
-ghost use Prim.Native.Nat.{ℕ, _+_, _-_, _≤_, _<_};
+ghost use Prim.Native.Nat.{_+_, _≤_, _<_};
 ghost use mathlib.Core.Path.{_≡_};
-ghost use mathlib.Core.List.{List, [], _∷_};
+ghost use mathlib.Core.List.{[]};
 ghost use lib.ListN.{length, drop, getD, set};
 ghost use Rattle.files.specs.Sets.{withPath};
 ghost use Rattle.files.specs.Number.{numberIn};
-ghost use Rattle.files.specs.Format.{run, runAll, atEnd};
+ghost use Rattle.files.specs.Format.{run, runAll};
 ghost use Rattle.files.specs.Reading.{tested};
 ghost use Rattle.documents.specs.PartList.{namedTest, pathTest, moreKids, kidsOn, partAt, moreParts, documentFile};
 ghost use Rattle.documents.specs.Reading.{parentAt, KidsAnswer, PartAnswer, partOf, PartsAnswer, listedAnswer, DocumentAnswer};

@@ -1,8 +1,7 @@
 // From the last part to the first: the set of paths that each part holds, and the parts on each path in ascending order.
-ghost use Prim.Native.Nat.{ℕ, _+_, _≤_, _<_};
+ghost use Prim.Native.Nat.{_+_, _≤_, _<_};
 ghost use mathlib.Core.Path.{_≡_};
-ghost use mathlib.Core.List.{List, [], _∷_};
-ghost use lib.ListN.{length, getD, replicate};
+ghost use lib.ListN.{length, replicate};
 ghost use Rattle.documents.specs.Reading.{kidsFrom, kidsAt};
 ghost use Rattle.documents.specs.Held.{setAt, heldAmong, Laid, Linked};
 use files::number::Number;

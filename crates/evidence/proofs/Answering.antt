@@ -1,37 +1,20 @@
 -- Laws of the evidence and the answer to a question, and of those for an inconsistent set.
-use Prim.Native.Nat.{ℕ, suc, _+_, _*_, _%_, _^_, _≤_, _<_}
-use mathlib.Core.Path.{_≡_, refl, sym, ap, ap₂, subst, _∙_}
+use Prim.Native.Nat.{ℕ, _+_, _≤_, _<_}
+use mathlib.Core.Path.{_≡_, refl, sym, ap, subst, _∙_}
 use mathlib.Core.Logic.{_⊎_, inl, inr}
-use mathlib.Core.Bool.{Bool, true, false, not, _&&_, _||_, and-eq-true-iff}
-use mathlib.Core.List.{List, [], _∷_, _++_, List·Memᴰ}
+use mathlib.Core.Bool.{Bool, true, false, not, _&&_, and-eq-true-iff}
+use mathlib.Core.List.{List, _++_}
 use native.Mathlib.Omega.{arith}
 use native.Mathlib.Decide.{ℕ-discrete}
 use lib.Dec.{T, eqb, ltb}
-use lib.ListN.{length, getD, take, length-append}
-use lib.Seq.{sets, sets-eq, take-at}
+use lib.ListN.{length, getD}
 use borrow.Author.Tests.{eq-eqb, ne-eqb, lt-ltb, le-ltb, ltb-true}
-use Rattle.files.specs.Number.{limit, bytesOf, bytesOfAll}
 use Rattle.files.specs.Table.{Rule}
 use Rattle.files.specs.Sets.{Has, lowest, common, UpTo64}
-use Rattle.files.specs.Writing.{wrapped}
 use Rattle.files.proofs.SetBits.{has-common, common-lt}
-use Rattle.files.proofs.Stores.{size-short, size-long}
 use Rattle.documents.specs.Paths.{contextOf}
 use Rattle.theory.specs.Least.{passing, someIn}
-use Rattle.theory.specs.Decide.{
-  ruleAt,
-  isDead,
-  deadPaths,
-  reacher,
-  rootSides,
-  rootb,
-  rootRule,
-  isRootPair,
-  rootFirst,
-  rootSecond,
-  isAskedDead,
-  deadAsked,
-}
+use Rattle.theory.specs.Decide.{isDead, deadPaths, reacher, rootSides, rootb, rootRule, isRootPair, rootFirst, rootSecond, isAskedDead, deadAsked}
 use Rattle.theory.specs.Evidence.{
   impliesb,
   excludesb,
@@ -52,8 +35,8 @@ use Rattle.theory.proofs.Least.{passing-iff, passing-small, some-lowest, least-
 use Rattle.reachable.proofs.Filling.{sound-fits}
 use Rattle.evidence.proofs.WordJoins.{ruleIn, rules-length, rule-at, dead-all}
 use Rattle.evidence.proofs.Collecting.{stored-more}
-use Rattle.theory.proofs.Writes.{evidence-written, inconsistent-written}
-use Rattle.theory.proofs.EvidenceSize.{evidence-bounded, inconsistent-bounded}
+use Rattle.theory.proofs.Writes.{evidence-written}
+use Rattle.theory.proofs.EvidenceSize.{evidence-bounded}
 
 -- ---- questions
 

@@ -1,15 +1,14 @@
 -- Laws of the choices, in the words of the code.
-use Prim.Native.Nat.{ℕ, zero, suc, _+_, _-_, _≤_, _<_}
+use Prim.Native.Nat.{ℕ, suc, _+_, _-_, _≤_, _<_}
 use mathlib.Core.Path.{_≡_, refl, sym, ap, _∙_}
-use mathlib.Core.Bool.{Bool, true, false, not, _&&_, _||_}
-use mathlib.Core.List.{List, [], _∷_}
+use mathlib.Core.Bool.{Bool, true, false, not, _&&_}
+use mathlib.Core.List.{List}
 use native.Mathlib.Omega.{arith}
 use native.Mathlib.Numerals.{add-one}
 use lib.Dec.{eqb}
-use lib.ListN.{length, getD}
+use lib.ListN.{getD}
 use borrow.Author.Tests.{eq-eqb, ne-eqb}
 use Rattle.files.specs.Rules.{rulesFrom}
-use Rattle.files.specs.Table.{Rule}
 use Rattle.files.specs.Sets.{hasb, withPath, union, common}
 use Rattle.files.proofs.Collect.{rules-step}
 use Rattle.documents.specs.Paths.{contextOf}
@@ -38,20 +37,7 @@ use Rattle.evidence.specs.Words.{
   reacherTest,
 }
 use Rattle.reachable.proofs.Filling.{depth-some}
-use Rattle.evidence.proofs.WordJoins.{
-  rules-length,
-  rule-at,
-  passing-next,
-  known-placed,
-  left-in,
-  right-in,
-  clash-same,
-  straight-same,
-  pair-same,
-  clash-all,
-  asked-same,
-  root-same,
-}
+use Rattle.evidence.proofs.WordJoins.{rules-length, passing-next, known-placed, left-in, right-in, clash-same, straight-same, pair-same, clash-all, asked-same, root-same}
 
 -- ---- where a word stands
 

@@ -1,14 +1,14 @@
 -- Laws of evidence collected in numbers.
-use Prim.Native.Nat.{ℕ, zero, suc, _+_, _-_, _^_, _≤_, _<_}
+use Prim.Native.Nat.{ℕ, suc, _+_, _≤_, _<_}
 use mathlib.Core.Path.{_≡_, refl, sym, ap, ap₂, _∙_}
-use mathlib.Core.Bool.{Bool, true, false, not, _&&_, _||_}
-use mathlib.Core.List.{List, [], _∷_, _++_}
+use mathlib.Core.Bool.{Bool, true, false}
+use mathlib.Core.List.{List, _∷_, _++_}
 use native.Mathlib.Omega.{arith}
 use native.Mathlib.Numerals.{add-one, add-two, add-three, add-four, add-five}
-use lib.Dec.{T, eqb, ltb}
+use lib.Dec.{T, ltb}
 use lib.ListN.{length, getD, set, length-append}
 use lib.Seq.{sets}
-use borrow.Author.Tests.{eq-eqb, ne-eqb, ltb-true}
+use borrow.Author.Tests.{ne-eqb, ltb-true}
 use Rattle.files.specs.Table.{Rule}
 use Rattle.files.specs.Sets.{hasb, lowest, UpTo64}
 use Rattle.files.proofs.Stores.{sets-append}

@@ -1,11 +1,11 @@
 -- Laws of the written walk as the code finds it.
-use Prim.Native.Nat.{ℕ, zero, suc, _+_, _*_, _-_, _^_, _≤_, _<_}
+use Prim.Native.Nat.{ℕ, zero, suc, _+_, _*_, _-_, _≤_, _<_}
 use mathlib.Core.Path.{_≡_, refl, sym, ap, ap₂, _∙_}
 use mathlib.Core.Bool.{Bool, true, false, _&&_}
 use mathlib.Core.List.{List, [], _∷_}
 use native.Mathlib.Omega.{arith}
 use native.Mathlib.Numerals.{add-one}
-use lib.Dec.{eqb, ltb}
+use lib.Dec.{eqb}
 use lib.ListN.{length, getD, set, length-set}
 use lib.Seq.{sets, getD-set-same, getD-set-other}
 use borrow.Author.Tests.{eq-eqb, ne-eqb, lt-ltb, le-ltb}
@@ -17,7 +17,7 @@ use Rattle.theory.specs.Parts.{RulesIn}
 use Rattle.theory.specs.Reachable.{backward, goesAlong, goesAgainst, subtree, alone, oneStep}
 use Rattle.theory.specs.Search.{Move, ruleMove, leastMove, forward, seek, writtenWalk}
 use Rattle.theory.specs.Evidence.{walkNumbers}
-use Rattle.reachable.specs.Arrays.{parentOf, ruleOf, ruleList, wayOf, Sound}
+use Rattle.reachable.specs.Arrays.{parentOf, ruleOf, ruleList, wayOf}
 use Rattle.evidence.specs.Layers.{pickTurn, turnOf, MoveIs, nearerOf, Sought, Stored}
 use Rattle.evidence.proofs.WordJoins.{ruleIn, numbered-in}
 

@@ -1,21 +1,20 @@
 -- What is worked out of the words of the table is what the decisions say.
-use Prim.Native.Nat.{ℕ, zero, suc, _+_, _-_, _^_, _≤_, _<_}
-use mathlib.Core.Path.{_≡_, refl, sym, ap, ap₂, _∙_, subst}
+use Prim.Native.Nat.{ℕ, zero, suc, _+_, _^_, _≤_, _<_}
+use mathlib.Core.Path.{_≡_, refl, sym, ap, ap₂, _∙_}
 use mathlib.Core.Logic.{_⊎_, inl, inr, _↔_}
 use mathlib.Core.Bool.{Bool, true, false, _&&_, _||_}
 use mathlib.Core.List.{List, [], _∷_}
 use native.Mathlib.Omega.{arith}
 use native.Mathlib.Nat.{add-zero}
 use native.Mathlib.Decide.{ℕ-discrete}
-use lib.Dec.{T, eqb, ltb, eqb→eq, ltb→lt, lit<}
-use lib.Ieee.Fits.{and-i, and-l, and-r}
+use lib.Dec.{T, eqb, ltb, ltb→lt, lit<}
 use lib.ListN.{length, getD}
 use Rattle.files.specs.Rules.{rulesFrom}
 use Rattle.files.specs.Table.{Rule, Numbered, first, later}
-use Rattle.files.specs.Sets.{Has, hasb, withPath, union, common}
-use Rattle.files.proofs.SetBits.{same-sets, has-with, with-lt, not-has, bit-of-zero, has-union, union-lt, hasb-true, hasb-has}
+use Rattle.files.specs.Sets.{Has, hasb}
+use Rattle.files.proofs.SetBits.{same-sets, has-with, with-lt, not-has, bit-of-zero, has-union}
 use Rattle.files.proofs.Tables.{rules-length as all-length}
-use Rattle.documents.specs.Paths.{Below, belowb, contextOf}
+use Rattle.documents.specs.Paths.{belowb, contextOf}
 use Rattle.documents.proofs.Paths.{below-le, belowb-iff, contextOf-context}
 use Rattle.theory.specs.Reachable.{reachable, reachb}
 use Rattle.theory.specs.Least.{least, passing, someIn}
@@ -35,33 +34,14 @@ use Rattle.theory.specs.Decide.{
   rootSides,
   rootb,
 }
-use Rattle.reachable.specs.Arrays.{parentOf, ruleOf, ruleList, Sound}
+use Rattle.reachable.specs.Arrays.{parentOf, ruleOf, ruleList}
 use Rattle.reachable.specs.Known.{lookup, Placed, reached, Known}
-use Rattle.evidence.specs.Words.{
-  Ready,
-  joinIf,
-  joinPassing,
-  bothIn,
-  clashIn,
-  clashBy,
-  clashAll,
-  clashesIn,
-  deadIn,
-  sidesIn,
-  straightIn,
-  pairIn,
-  askedIn,
-  joinAsked,
-  fromAsked,
-  rootIn,
-  pairTest,
-  reacherTest,
-}
+use Rattle.evidence.specs.Words.{joinIf, joinPassing, bothIn, clashIn, clashBy, clashAll, clashesIn, deadIn, sidesIn, straightIn, pairIn, askedIn, joinAsked, fromAsked, rootIn, pairTest, reacherTest}
 use Rattle.theory.proofs.Walks.{numbered-lt, numbered-unique, reach-refl, reach-start}
 use Rattle.theory.proofs.Reachable.{T-hasb, reachable-iff}
 use Rattle.theory.proofs.Least.{least-passes, least-some, passing-iff, passing-small}
 use Rattle.theory.proofs.Decide.{ruleAt-numbered}
-use Rattle.reachable.proofs.Filling.{sound-fits, reached-small, depth-some}
+use Rattle.reachable.proofs.Filling.{sound-fits, depth-some}
 
 -- two tests that pass together are equal
 same-test : (a b : Bool) → T a ↔ T b → a ≡ b
@@ -182,9 +162,6 @@ module _ {parent kind left right depth table : List ℕ} {count many : ℕ} (kno
       → lookup depth table c x ≡ reachable (parentOf parent) (ruleList kind left right many) count c x
   unfolding reached
   lookup-is c x h k = known .reaches .each c x h k
-
-  pub lookup-small : (c x : ℕ) → c < count → x < count → lookup depth table c x < 2 ^ 64
-  lookup-small c x h k = rw (known .reaches .each c x h k) (reached-small (known .sound) c x h k)
 
   pub known-placed : (c x : ℕ) → c < count → x < count → Placed depth c x
   known-placed c x h k = record {

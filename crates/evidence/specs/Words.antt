@@ -1,5 +1,5 @@
 -- What the code works out of the words of the table: clashes, dead paths, pairs and the root pair.
-use Prim.Native.Nat.{ℕ, zero, suc, _≤_, _<_}
+use Prim.Native.Nat.{ℕ, zero, suc, _<_}
 use mathlib.Core.Path.{_≡_}
 use mathlib.Core.Bool.{Bool, true, false, _&&_, _||_}
 use mathlib.Core.List.{List, [], _∷_}
@@ -8,9 +8,9 @@ use Rattle.files.specs.Table.{Rule}
 use Rattle.files.specs.Sets.{hasb, withPath, union, common}
 use Rattle.documents.specs.Paths.{contextOf}
 use Rattle.theory.specs.Least.{passing, someIn}
-use Rattle.theory.specs.Decide.{clashing, pairb, reacher}
+use Rattle.theory.specs.Decide.{clashing, pairb}
 use Rattle.theory.specs.Reachable.{reachb}
-use Rattle.reachable.specs.Arrays.{parentOf, ruleList, Parents, Sound}
+use Rattle.reachable.specs.Arrays.{parentOf, ruleList, Parents}
 use Rattle.reachable.specs.Known.{DepthsIn, lookup, Known}
 
 -- what is known where a rule is looked at: the depths, and that its sides are paths of the table

@@ -1,10 +1,10 @@
 // Dead paths, pairs and the root pair, from the words of the table.
-ghost use Prim.Native.Nat.{ℕ, _≤_, _<_};
+ghost use Prim.Native.Nat.{_≤_, _<_};
 ghost use mathlib.Core.Path.{_≡_};
 ghost use Rattle.theory.specs.Decide.{clashRule, clashing, pairRule, pairSide, reacher, rootRule};
 ghost use Rattle.theory.specs.Least.{passing};
 ghost use Rattle.reachable.specs.Arrays.{parentOf, ruleOf, ruleList, Parents};
-ghost use Rattle.reachable.specs.Known.{DepthsIn, Placed, Known};
+ghost use Rattle.reachable.specs.Known.{Placed, Known};
 ghost use Rattle.evidence.specs.Words.{Ready, bothIn, joinIf, joinPassing, clashIn, clashBy, clashesIn, deadIn, sidesIn, straightIn, pairIn, askedIn, joinAsked, fromAsked, rootIn};
 use files::sets;
 use reachable::reach::reach;

@@ -1,17 +1,17 @@
 -- Laws of formats: what reading answers is exactly what the bytes are, both ways, for every format.
 use Prim.Native.Nat.{ℕ, zero, suc, _+_, _<_, _≤_}
-use mathlib.Core.Path.{_≡_, refl, sym, ap, ap₂, subst, _∙_}
+use mathlib.Core.Path.{_≡_, refl, sym, ap, subst, _∙_}
 use mathlib.Core.Bool.{Bool, true, false, cond}
 use mathlib.Core.List.{List, [], _∷_, _++_, append-assoc, append-nil}
 use native.Mathlib.Omega.{arith}
 use native.Mathlib.Nat.{le-refl}
-use lib.ListN.{length, getD, drop, length-append}
+use lib.ListN.{length, drop, length-append}
 use lib.Seq.{drop-drop, drop-append-seam, getD-append-add}
 use lib.Dec.{ltb}
 use borrow.Author.Tests.{lt-ltb, le-ltb, ltb-true, ltb-false}
 use Rattle.files.specs.declared.number.Number.{Number}
 use Rattle.files.specs.declared.number.Number.the-variants.{Is, Refused}
-use Rattle.files.specs.Number.{limit, bytesOf, bytesOfAll, numberIn, Cut, TooLong, Bytes, Begins, number, cut as begins-cut, long as begins-long}
+use Rattle.files.specs.Number.{limit, bytesOf, bytesOfAll, numberIn, Bytes, Begins, number, cut as begins-cut, long as begins-long}
 use Rattle.files.specs.Format.{Format, done, want, andThen, Outcome, got, refused, run, atEnd, onTest, onNumber, runAll, Leads, here, take, Stops, cut, long, own, left, Accepted, RefusedAt}
 use Rattle.files.proofs.Numbers.{read-back, in-cut, in-long, begins}
 

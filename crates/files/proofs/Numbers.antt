@@ -1,7 +1,7 @@
 -- Laws of numbers: what bytes begin with is exactly one of a number, a cut one and one too long.
 use Prim.Native.Nat.{ℕ, suc, _+_, _*_, _/_, _%_, _^_, _<_, _≤_}
 use mathlib.Core.Path.{_≡_, refl, sym, ap, ap₂, subst, _∙_}
-use mathlib.Core.Bool.{Bool, true, false, cond}
+use mathlib.Core.Bool.{Bool, true, false}
 use mathlib.Core.List.{List, [], _∷_, _++_}
 use native.Mathlib.Omega.{arith}
 use native.Mathlib.Numerals.{add-one}
@@ -11,7 +11,7 @@ use lib.Dec.{ltb, eqb}
 use borrow.Author.Tests.{lt-ltb, le-ltb, eq-eqb, ne-eqb, ltb-true, ltb-false, eqb-true, eqb-false}
 use Rattle.files.specs.declared.number.Number.{Number}
 use Rattle.files.specs.declared.number.Number.the-variants.{Is, Refused}
-use Rattle.files.specs.Number.{limit, bytesOf, bytesOfAll, Cut, before, inside, TooLong, third, empty, Bytes, twoBytes, secondIn, numberIn, Begins, number, cut, long}
+use Rattle.files.specs.Number.{limit, bytesOf, Cut, before, inside, TooLong, third, empty, Bytes, twoBytes, secondIn, numberIn, Begins, number, cut, long}
 
 -- a number below 128 is its own byte
 pub bytes-short : (n : ℕ) → n < 128 → bytesOf n ≡ n ∷ []

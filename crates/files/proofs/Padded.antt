@@ -1,9 +1,9 @@
 -- Laws of a list in an array of fixed length, whose slots past the list hold 0.
-use Prim.Native.Nat.{ℕ, zero, suc, _-_, _<_, _≤_}
+use Prim.Native.Nat.{ℕ, zero, suc, _-_, _<_}
 use mathlib.Core.Path.{_≡_, refl, sym, ap, _∙_}
 use mathlib.Core.List.{List, [], _∷_, _++_}
 use native.Mathlib.Omega.{arith}
-use lib.ListN.{length, getD, set, replicate, length-append, length-replicate}
+use lib.ListN.{length, getD, set, replicate, length-append}
 use lib.Seq.{append-snoc, set-append-seam}
 use Rattle.files.specs.Rules.{padded}
 
@@ -21,10 +21,6 @@ before-zeros (y ∷ l) k (suc x) = before-zeros l k x
 pub padded-get : (n : ℕ) (l : List ℕ) (x : ℕ) → getD (padded n l) x 0 ≡ getD l x 0
 unfolding padded
 padded-get n l x = before-zeros l (n - length l) x
-
-pub padded-length : (n : ℕ) (l : List ℕ) → length l ≤ n → length (padded n l) ≡ n
-unfolding padded
-padded-length n l h = omega (arith, length-append l (replicate (n - length l) 0), length-replicate {A = ℕ} (n - length l) 0)
 
 -- the empty list leaves every slot 0
 pub padded-none : (n : ℕ) → padded n [] ≡ replicate n 0

@@ -1,13 +1,12 @@
 -- Laws of the reader's functions, in the words of the code.
 use Prim.Native.Nat.{ℕ, zero, suc, pred, _+_, _-_, _%_, _^_, _<_, _≤_}
-use mathlib.Core.Path.{_≡_, refl, sym, ap, ap₂, subst, _∙_}
-use mathlib.Core.Bool.{Bool, true, false, cond}
-use mathlib.Core.List.{List, [], _∷_, _++_}
+use mathlib.Core.Path.{_≡_, refl, sym, ap, _∙_}
+use mathlib.Core.Bool.{Bool, true, false}
+use mathlib.Core.List.{List, _∷_}
 use native.Mathlib.Omega.{arith}
-use native.Mathlib.Numerals.{add-one}
-use lib.ListN.{length, getD, drop, length-append}
-use lib.Dec.{ltb, leb, eqb}
-use borrow.Author.Tests.{eq-eqb, ne-eqb, lt-ltb, le-ltb, le-leb, lt-leb, ltb-true, ltb-false}
+use lib.ListN.{length, getD, drop}
+use lib.Dec.{ltb, eqb}
+use borrow.Author.Tests.{eq-eqb, ne-eqb, lt-ltb, le-ltb, le-leb, lt-leb, ltb-true}
 use Rattle.files.specs.declared.number.Number.{Number}
 use Rattle.files.specs.declared.number.Number.the-variants.{Is, Refused}
 use Rattle.files.specs.Number.{numberIn}
@@ -15,7 +14,7 @@ use Rattle.files.specs.RuleFile.{between, sameChild, repeats, parentTest
 use Rattle.files.specs.Rules.{pathsFrom, padded}
 use Rattle.files.specs.Table.{Path}
 use Rattle.files.specs.declared.read.OnePath.{OnePath}
-use Rattle.files.specs.Format.{Format, done, want, run, got, refused}
+use Rattle.files.specs.Format.{done, run}
 use Rattle.files.specs.Reading.{passed, tested, pathAnswer}
 use Rattle.files.proofs.Formats.{run-bad, run-own, run-next, run-on}
 use Rattle.files.proofs.Numbers.{place-fits}

@@ -1,13 +1,13 @@
 -- The loop over the paths of a rule file: what remains from here is the whole answer.
-use Prim.Native.Nat.{ℕ, zero, suc, pred, _+_, _-_, _<_, _≤_}
-use mathlib.Core.Path.{_≡_, refl, sym, ap, ap₂, subst, _∙_}
-use mathlib.Core.List.{List, [], _∷_, _++_, map}
+use Prim.Native.Nat.{ℕ, suc, _+_, _-_, _<_, _≤_}
+use mathlib.Core.Path.{_≡_, refl, sym, ap, ap₂, _∙_}
+use mathlib.Core.List.{List, [], _∷_, _++_}
 use native.Mathlib.Omega.{arith}
 use lib.ListN.{length, getD, drop, set, replicate, length-append, length-map}
 use Rattle.files.specs.declared.read.OnePath.{OnePath}
 use Rattle.files.specs.declared.read.Section.{Section}
 use Rattle.files.specs.declared.read.Paths.{Paths}
-use Rattle.files.specs.Format.{Format, done, want, andThen, Outcome, run, got, refused}
+use Rattle.files.specs.Format.{Outcome, run, got, refused}
 use Rattle.files.specs.Table.{Path, parents, labels}
 use Rattle.files.specs.RuleFile.{onePath, morePaths, deeper, depths}
 use Rattle.files.specs.Rules.{pathsFrom, padded}

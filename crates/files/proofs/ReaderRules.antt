@@ -1,28 +1,27 @@
 -- The required paths and the rules of a rule file: each number tested, and the loops over them.
-use Prim.Native.Nat.{ℕ, zero, suc, pred, _+_, _-_, _%_, _^_, _<_, _≤_}
-use mathlib.Core.Path.{_≡_, refl, sym, ap, ap₂, subst, _∙_}
+use Prim.Native.Nat.{ℕ, zero, suc, _+_, _-_, _%_, _^_, _<_, _≤_}
+use mathlib.Core.Path.{_≡_, refl, sym, ap, ap₂, _∙_}
 use mathlib.Core.Bool.{Bool, true, false}
-use mathlib.Core.Logic.{_⊎_, inl, inr, ⊎-elim}
 use mathlib.Core.List.{List, [], _∷_, _++_, map}
 use native.Mathlib.Omega.{arith}
-use lib.ListN.{length, getD, drop, set, replicate, length-append, length-map}
+use lib.ListN.{length, drop, set, replicate, length-append, length-map}
 use lib.Dec.{ltb, leb}
-use borrow.Author.Tests.{ltb-true, ltb-false, leb-true, leb-false}
+use borrow.Author.Tests.{ltb-true, leb-true}
 use Rattle.files.specs.declared.number.Number.{Number}
 use Rattle.files.specs.declared.number.Number.the-variants.{Is, Refused}
 use Rattle.files.specs.declared.read.Required.{Required}
 use Rattle.files.specs.declared.read.OneRule.{OneRule}
 use Rattle.files.specs.declared.read.RuleList.{RuleList}
 use Rattle.files.specs.declared.read.Section.{Section}
-use Rattle.files.specs.Number.{limit, numberIn}
+use Rattle.files.specs.Number.{numberIn}
 use Rattle.files.specs.Sets.{withPath}
-use Rattle.files.specs.Format.{Format, done, want, andThen, Outcome, run, got, refused}
+use Rattle.files.specs.Format.{Format, done, want, Outcome, run, got, refused}
 use Rattle.files.specs.Table.{Rule}
 use Rattle.files.specs.RuleFile.{between, moreRequired, ruleRight, ruleLeft, oneRule, moreRules}
 use Rattle.files.specs.Rules.{padded, addAll}
 use Rattle.files.specs.Reading.{passed, tested, requiredAnswer, ruleAnswer, ruleListAnswer}
 use Rattle.files.proofs.Formats.{onward, run-then, run-bad, run-own, run-on}
-use Rattle.files.proofs.Numbers.{number-ends, place-fits}
+use Rattle.files.proofs.Numbers.{place-fits}
 use Rattle.files.proofs.Padded.{padded-store}
 use Rattle.files.proofs.Tables.{map-snoc}
 

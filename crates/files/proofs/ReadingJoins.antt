@@ -3,15 +3,14 @@ use Prim.Native.Nat.{ℕ, _<_}
 use mathlib.Core.Path.{_≡_, refl, sym, ap, _∙_}
 use mathlib.Core.List.{List}
 use native.Mathlib.Omega.{arith}
-use lib.ListN.{length, getD}
+use lib.ListN.{getD}
 use Rattle.files.specs.declared.read.Answer.{Answer}
 use Rattle.files.specs.declared.read.Answer.the-variants.{Accepted}
 use Rattle.files.specs.declared.read.Reading.{Reading}
 use Rattle.files.specs.Number.{Bytes}
 use Rattle.files.specs.Format.{Outcome, got, refused, runAll, RefusedAt}
-use Rattle.files.specs.Table.{RuleSet, Valid}
-use Rattle.files.specs.RuleFile.{ruleFile, fileOf}
-use Rattle.files.specs.Rules.{tableOf, noRules}
+use Rattle.files.specs.Table.{RuleSet}
+use Rattle.files.specs.RuleFile.{ruleFile}
 use Rattle.files.specs.Reading.{readingOf, readAnswer, AcceptedFile, ReadRules}
 use Rattle.files.proofs.Formats.{refused-if, refused-only}
 use Rattle.files.proofs.RuleFiles.{read-only, written-reads}

@@ -9,7 +9,7 @@ use native.Mathlib.Omega.{arith}
 use lib.ListN.{length, getD}
 use borrow.Author.Tests.{lt-ltb, le-ltb, eq-eqb, eqb-true}
 use Rattle.files.specs.RuleFile.{between, depths, parentTest, sameChild, repeats, labelTest}
-use Rattle.files.specs.Table.{Path, parents, labels, parentIn, Depth}
+use Rattle.files.specs.Table.{Path, labels, parentIn, Depth}
 use Rattle.files.proofs.Depths.{Smaller, depth-only, depth-is}
 use Rattle.files.proofs.Reader.{between-low, between-past, between-in, same-parent, other-parent}
 

@@ -175,7 +175,3 @@ one-file r q v w e =
 -- bytes are refused with number k at a place exactly if numbers that pass their tests lead there, and there reading stops with k
 pub refused-file : (s : List ℕ) → Bytes s → (k at : ℕ) → (runAll ruleFile s ≡ refused k at) ↔ RefusedAt ruleFile s k at
 refused-file s bs k at = (refused-only ruleFile s bs k at, refused-if ruleFile s k at)
-
--- bytes are accepted with at most one rule set
-pub one-reading : (s : List ℕ) (r q : RuleSet) (at to : ℕ) → runAll ruleFile s ≡ got r at → runAll ruleFile s ≡ got q to → r ≡ q
-one-reading s r q at to e f = cc

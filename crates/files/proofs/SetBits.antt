@@ -159,10 +159,6 @@ pub union-ge : (a b : ℕ) → a ≤ union a b
 unfolding union
 union-ge a b = omega (arith, or-add-and a b, and-le-r a b)
 
--- a set that a union leaves as it was had every path of the other
-pub union-same : (a b i : ℕ) → union a b ≡ a → Has b i → Has a i
-union-same a b i e h = subst (λ (x : ℕ). Has x i) e (has-union a b i .1 (inr h))
-
 pub common-le : (a b : ℕ) → common a b ≤ a
 unfolding common
 common-le a b = and-le-l a b

@@ -7,7 +7,7 @@ use native.Mathlib.Decide.{decLt}
 use native.Mathlib.Omega.{arith}
 use lib.Pow.{pow-pos}
 use lib.Bits.{bitAnd, and-step, and-self}
-use lib.Count.{trailingZeros, under, trailing-of-zero, trailing-le}
+use lib.Count.{trailingZeros, under, trailing-le}
 use Rattle.files.specs.Sets.{bit, Has, lowest, withoutLowest}
 use Rattle.files.proofs.SetBits.{bit-zero, bit-suc, not-has, bit-of-zero, without-old, without-absent, bit-without-same, bit-without-other, has-without, without-lt}
 
@@ -57,10 +57,6 @@ least (suc k) w p h = go (w % 2) refl (λ q. least k (w / 2) q (omega (arith, po
         → Least (suc k) w (under d (trailingZeros k (w / 2)))
     go zero e ih = even e (ih (omega arith))
     go (suc d) e ih = odd (omega arith)
-
-pub lowest-of-zero : lowest 0 ≡ 64
-unfolding lowest
-lowest-of-zero = trailing-of-zero 64
 
 pub lowest-le : (w : ℕ) → lowest w ≤ 64
 unfolding lowest

@@ -5,7 +5,6 @@ use mathlib.Core.Logic.{_↔_, _≢_, _⊎_, inl, inr, ⊎-elim}
 use mathlib.Core.List.{List, [], _∷_, _++_, List·Memᴰ, List·Memᴰ·head, List·Memᴰ·tail, List·Memᴰ·not-nil, List·Memᴰ·cases-cons}
 use native.Mathlib.Nat.{le-refl, le-of-eq, eq-or-lt-of-le, add-zero}
 use native.Mathlib.Decide.{decLt, ℕ-discrete, le-ind}
-use native.Mathlib.Numerals.{add-one}
 use native.Mathlib.Omega.{arith}
 use lib.ListN.{length}
 use Rattle.files.specs.Sets.{bit, Has, withPath, lowest, withoutPath, withoutLowest, sizeBelow, size, keep, membersFrom, members, Ascending, none, next}
@@ -22,9 +21,6 @@ pub size-below-suc : (w i : ℕ) → sizeBelow w (suc i) ≡ sizeBelow w i + bit
 unfolding sizeBelow
 size-below-suc w i = refl
 
-pub size-below-next : (w i : ℕ) → sizeBelow w (i + 1) ≡ sizeBelow w i + bit w i
-size-below-next w i = ap (sizeBelow w) (add-one i) ∙ size-below-suc w i
-
 pub size-below-all : (w : ℕ) → sizeBelow w 64 ≡ size w
 unfolding size
 size-below-all w = refl
@@ -32,10 +28,6 @@ size-below-all w = refl
 pub size-below-mono : (w i j : ℕ) → i ≤ j → sizeBelow w i ≤ sizeBelow w j
 size-below-mono w i j h =
     le-ind (λ (m : ℕ). sizeBelow w i ≤ sizeBelow w m) (le-refl (sizeBelow w i)) (λ m l e. omega (arith, size-below-suc w m)) j h
-
--- a path of the set counts from the next number on
-pub size-below-has : (w i j : ℕ) → Has w i → i < j → sizeBelow w i < sizeBelow w j
-size-below-has w i j m h = omega (arith, size-below-suc w i, size-below-mono w (suc i) j h, m .one)
 
 pub size-below-le : (w i : ℕ) → sizeBelow w i ≤ i
 size-below-le w zero = le-of-eq (size-below-zero w)

@@ -1,6 +1,6 @@
 -- The struct that reading hands back stands for the rule set that was read; so writing and reading undo each other.
 use Prim.Native.Nat.{ℕ, suc, _+_, _-_, _^_, _<_, _≤_}
-use mathlib.Core.Path.{_≡_, refl, sym, ap, ap₂, subst, _∙_}
+use mathlib.Core.Path.{_≡_, refl, sym, ap, subst, _∙_}
 use mathlib.Core.Logic.{⊎-elim}
 use mathlib.Core.List.{List, [], _∷_, _++_, map, append-nil, List·Memᴰ, List·Memᴰ·head, List·Memᴰ·tail}
 use native.Mathlib.Omega.{arith}
@@ -13,7 +13,7 @@ use Rattle.files.specs.Number.{Bytes}
 use Rattle.files.specs.RuleFile.{ruleFile, fileOf}
 use Rattle.files.specs.Rules.{pathsFrom, rulesFrom, padded, rulesOf, ValidTable, addAll, tableOf}
 use Rattle.files.specs.Sets.{Has, withPath, members, Ascending, none, next}
-use Rattle.files.specs.Table.{Path, Rule, RuleSet, parents, labels, Valid}
+use Rattle.files.specs.Table.{Rule, RuleSet, parents, labels, Valid}
 use Rattle.files.specs.Writing.{put, writeAnswer}
 use Rattle.files.proofs.Padded.{padded-get}
 use Rattle.files.proofs.RuleFiles.{written-reads, read-only}

@@ -1,6 +1,6 @@
 -- The test behind refusal 12 holds exactly where the table handed in is valid.
-use Prim.Native.Nat.{ℕ, zero, suc, _+_, _-_, _^_, _<_, _≤_}
-use mathlib.Core.Path.{_≡_, refl, sym, ap, subst, _∙_}
+use Prim.Native.Nat.{ℕ, suc, _+_, _-_, _^_, _<_, _≤_}
+use mathlib.Core.Path.{_≡_, sym, subst, _∙_}
 use mathlib.Core.Logic.{_↔_, ⊎-elim}
 use mathlib.Core.Bool.{true}
 use mathlib.Core.List.{List, [], List·Memᴰ, List·Memᴰ·head, List·Memᴰ·not-nil, List·Memᴰ·cases-cons}
@@ -12,7 +12,7 @@ use borrow.Author.Tests.{lt-ltb, eq-eqb, ltb-true, eqb-true}
 use Rattle.files.specs.declared.rules.Rules.{Rules}
 use Rattle.files.specs.Number.{limit}
 use Rattle.files.specs.RuleFile.{between}
-use Rattle.files.specs.Rules.{pathsFrom, rulesFrom, rulesOf, ValidTable}
+use Rattle.files.specs.Rules.{pathsFrom, rulesOf, ValidTable}
 use Rattle.files.specs.Sets.{Has, common, difference, belowAll, members, Ascending, none, next}
 use Rattle.files.specs.Writing.{both, pathsPass, requiredPass, tablePasses}
 use Rattle.files.proofs.FileParts.{Within}

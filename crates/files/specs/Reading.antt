@@ -1,8 +1,8 @@
 -- What the functions of the reader answer.
-use Prim.Native.Nat.{ℕ, zero, suc, _+_, _≤_, _<_}
+use Prim.Native.Nat.{ℕ, zero, suc, _+_}
 use mathlib.Core.Path.{_≡_}
 use mathlib.Core.List.{List, [], map}
-use lib.ListN.{length, drop, getD}
+use lib.ListN.{length, getD}
 use Rattle.files.specs.declared.number.Number.{Number}
 use Rattle.files.specs.declared.number.Number.the-variants.{Is, Refused}
 use Rattle.files.specs.declared.read.OnePath.{OnePath}
@@ -15,7 +15,6 @@ use Rattle.files.specs.declared.read.Answer.the-variants.{Accepted}
 use Rattle.files.specs.declared.read.Reading.{Reading}
 use Rattle.files.specs.declared.read.Section.{Section}
 use Rattle.files.specs.Rules.{padded, addAll, tableOf, noRules}
-use Rattle.files.specs.Number.{limit, numberIn}
 use Rattle.files.specs.Format.{Outcome, got, refused, runAll, RefusedAt}
 use Rattle.files.specs.RuleFile.{ruleFile, fileOf}
 use Rattle.files.specs.Table.{Path, Rule, RuleSet, Valid, parents, labels}

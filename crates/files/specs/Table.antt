@@ -1,7 +1,7 @@
 -- A table of paths with its required paths and its rules, as 01 speaks of them.
 use Prim.Native.Nat.{ℕ, suc, _+_, _<_, _≤_}
 use mathlib.Core.Path.{_≡_}
-use mathlib.Core.List.{List, [], _∷_, map, List·Memᴰ}
+use mathlib.Core.List.{List, _∷_, map, List·Memᴰ}
 use lib.ListN.{length, getD}
 use Rattle.files.specs.Number.{limit}
 use Rattle.files.specs.Sets.{Ascending}

@@ -1,5 +1,5 @@
 -- Writing a rule file: the test behind refusal 12, and what the answer and the buffer are.
-use Prim.Native.Nat.{ℕ, zero, suc, _+_, _-_, _%_, _<_, _≤_}
+use Prim.Native.Nat.{ℕ, _+_, _-_, _%_, _<_}
 use mathlib.Core.Path.{_≡_}
 use mathlib.Core.Logic.{_↔_}
 use mathlib.Core.Bool.{Bool, true, false, cond}
@@ -9,7 +9,7 @@ use lib.Dec.{ltb, leb, eqb}
 use Rattle.files.specs.declared.rules.Rules.{Rules}
 use Rattle.files.specs.declared.write.Written.{Written}
 use Rattle.files.specs.declared.write.Written.the-variants.{Length, Refused}
-use Rattle.files.specs.Number.{limit, bytesOfAll}
+use Rattle.files.specs.Number.{limit}
 use Rattle.files.specs.RuleFile.{between, parentTest, labelTest, depths, pathNumbers, ruleNumbers, fileOf}
 use Rattle.files.specs.Rules.{rulesOf, pathsFrom, rulesFrom, ValidTable}
 use Rattle.files.specs.Sets.{common, difference, belowAll, members}

@@ -69,8 +69,6 @@ pub highest-reads : (w : ℕ) → 63 - leadingZeros 64 w ≡ highest w
 unfolding highest
 highest-reads w = refl
 
-pub ruleset highest-laws = (leading-small, highest-reads)
-
 pub towards-start : (parent : ℕ → ℕ) (c g : ℕ) → climbUnder parent c g g ≡ towards parent c g
 unfolding towards
 towards-start parent c g = refl

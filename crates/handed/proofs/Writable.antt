@@ -1,12 +1,9 @@
 -- From a table and its reachable sets the document handed back can be written: its numbers and its bytes are few.
 use Prim.Native.Nat.{ℕ, _^_, _<_}
-use mathlib.Core.Path.{_≡_, refl, sym, _∙_, subst, fun-ext}
-use mathlib.Core.Bool.{Bool, true, false}
+use mathlib.Core.Path.{_≡_, refl, sym, _∙_, subst}
 use mathlib.Core.Logic.{_↔_}
 use mathlib.Core.List.{List}
 use native.Mathlib.Omega.{arith}
-use lib.Dec.{ltb}
-use borrow.Author.Tests.{ltb-true}
 use Rattle.files.specs.Sets.{Has}
 use Rattle.documents.specs.Paths.{Below}
 use Rattle.documents.proofs.Paths.{below-le}
@@ -15,7 +12,7 @@ use Rattle.theory.specs.Walk.{Reach}
 use Rattle.reachable.specs.Arrays.{parentOf, ruleList}
 use Rattle.reachable.specs.Known.{lookup, reached, Known}
 use Rattle.theory.specs.Handed.{ReachWords}
-use Rattle.handed.specs.Writer.{wordFor, inTable, Tabled, startOf}
+use Rattle.handed.specs.Writer.{wordFor, Tabled, startOf}
 use Rattle.handed.specs.Emit.{Writable}
 use Rattle.reachable.proofs.Filling.{sound-fits, depth-some}
 use Rattle.handed.proofs.GoalWords.{word-in}
@@ -30,18 +27,6 @@ module _ (parent kind left right : List ℕ) (count many : ℕ) (depth table : L
       → wordFor depth table count c x ≡ reachable (parentOf parent) (ruleList kind left right many) count c x
   unfolding reached
   word-is c x h k = sym (word-in depth table count c x (lookup depth table c x) refl h k) ∙ known .reaches .each c x h k
-
-  -- looked up, the table's words are the reachable sets of the table's paths, and nothing else
-  pub words-are : wordFor depth table count ≡ inTable count (reachable (parentOf parent) (ruleList kind left right many) count)
-  unfolding wordFor inTable
-  words-are = fun-ext (λ c. fun-ext (λ x. pick c x (ltb c count) (ltb x count) refl refl))
-    where
-      pick : (c x : ℕ) (s t : Bool) → ltb c count ≡ s → ltb x count ≡ t
-          → wordFor depth table count c x ≡ inTable count (reachable (parentOf parent) (ruleList kind left right many) count) c x
-      pick c x true true e f =
-          word-is c x (ltb-true c count e) (ltb-true x count f) ∙ rw (inTable, e, f) refl
-      pick c x true false e f = rw (wordFor, inTable, e, f)
-      pick c x false t e f = rw (wordFor, inTable, e)
 
   pub table-words : ReachWords (parentOf parent) (ruleList kind left right many) count (wordFor depth table count)
   table-words = record {

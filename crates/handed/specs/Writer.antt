@@ -13,10 +13,6 @@ use Rattle.theory.specs.Handed.{Start, severalb, climbAll}
 unfoldable pub wordFor : (depth table : List ℕ) (count c x : ℕ) → ℕ
 wordFor depth table count c x = elim (ltb c count && ltb x count) [ true ↦ lookup depth table c x | false ↦ 0 ]
 
--- R of paths of the table; none for a number past it
-unfoldable pub inTable : (count : ℕ) (R : ℕ → ℕ → ℕ) (c x : ℕ) → ℕ
-inTable count R c x = elim (ltb c count && ltb x count) [ true ↦ R c x | false ↦ 0 ]
-
 -- the depths of a table's paths are from 1 to 8
 pub record Tabled (depth : List ℕ) (count : ℕ) : Type 0 where
   pub few : count ≤ 64

@@ -1,17 +1,16 @@
 -- Numbers laid out block after block are the whole text: what a call lays out, and what the rest will be, is the text from its place.
 use Prim.Native.Nat.{ℕ, zero, suc, _+_, _-_, _<_, _≤_}
-use mathlib.Core.Path.{_≡_, refl, sym, ap, ap₂, subst, _∙_}
-use mathlib.Core.Bool.{Bool, true, false, cond}
+use mathlib.Core.Path.{_≡_, refl, sym, ap, subst, _∙_}
+use mathlib.Core.Bool.{Bool, true, false}
 use mathlib.Core.List.{List, [], _∷_, _++_, append-assoc, append-nil, List·Memᴰ, List·Memᴰ·head, List·Memᴰ·tail}
 use native.Mathlib.Omega.{arith}
 use lib.ListN.{length, drop, length-append}
 use lib.Seq.{drop-at}
 use lib.Dec.{eqb, leb, ltb}
 use borrow.Author.Tests.{le-leb, lt-leb}
-use Rattle.files.specs.declared.number.Number.{Number}
 use Rattle.files.specs.declared.number.Number.the-variants.{Is, Refused}
-use Rattle.files.specs.Number.{limit, numberIn, bytesOf, bytesOfAll, Cut, before}
-use Rattle.files.proofs.Numbers.{read-back, in-cut, number-bounds}
+use Rattle.files.specs.Number.{limit, numberIn, bytesOf, bytesOfAll, before}
+use Rattle.files.proofs.Numbers.{read-back, in-cut}
 use Rattle.listing.specs.declared.lay.Stage.{Stage}
 use Rattle.listing.specs.declared.lay.Stage.the-variants.{Count, Path, Children, Child, First, More}
 use Rattle.listing.specs.declared.lay.Place.{Place}

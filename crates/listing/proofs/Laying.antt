@@ -1,21 +1,20 @@
 -- The loop that lays out numbers: what is laid out, and what remains from here, is the whole.
 use Prim.Native.Nat.{ℕ, zero, suc, _+_, _-_, _%_, _^_, _<_, _≤_}
 use mathlib.Core.Path.{_≡_, refl, sym, ap, ap₂, subst, _∙_}
-use mathlib.Core.Bool.{Bool, true, false, cond}
+use mathlib.Core.Bool.{Bool, true, false}
 use mathlib.Core.List.{List, [], _∷_, _++_, append-assoc, append-nil}
 use native.Mathlib.Omega.{arith}
 use lib.ListN.{length, drop, length-append, length-drop}
-use lib.Seq.{sets, length-sets}
+use lib.Seq.{sets}
 use lib.Dec.{eqb, leb}
 use borrow.Author.Tests.{eq-eqb, ne-eqb, le-leb, lt-leb}
 use Rattle.files.specs.declared.number.Number.{Number}
 use Rattle.files.specs.declared.number.Number.the-variants.{Is, Refused}
 use Rattle.files.specs.Number.{limit, numberIn}
-use Rattle.files.proofs.Numbers.{number-bounds, number-ends}
+use Rattle.files.proofs.Numbers.{number-bounds}
 use Rattle.listing.specs.declared.lay.Stage.{Stage}
 use Rattle.listing.specs.declared.lay.Stage.the-variants.{Count, Path, Children, Child, First, More}
 use Rattle.listing.specs.declared.lay.Place.{Place}
-use Rattle.listing.specs.declared.lay.Laid.{Laid}
 use Rattle.listing.specs.Text.{digits, spaced, feed, Stored}
 use Rattle.listing.specs.Lay.{
   refusedWord,

@@ -1,15 +1,14 @@
 -- Laid out number by number, a document's text is its listing and evidence's text is its line; and block after block is the whole.
-use Prim.Native.Nat.{ℕ, zero, suc, _+_, _-_, _%_, _<_, _≤_}
+use Prim.Native.Nat.{ℕ, _+_, _-_, _%_, _<_, _≤_}
 use mathlib.Core.Path.{_≡_, refl, sym, ap, ap₂, _∙_}
-use mathlib.Core.Bool.{Bool, true, false, cond}
+use mathlib.Core.Bool.{true}
 use mathlib.Core.List.{List, [], _∷_, _++_, append-assoc, append-nil}
 use native.Mathlib.Omega.{arith}
-use native.Mathlib.Numerals.{add-one}
-use lib.ListN.{length, length-append}
-use lib.Dec.{eqb, leb}
-use borrow.Author.Tests.{eq-eqb, ne-eqb, le-leb, lt-leb}
+use lib.ListN.{length}
+use lib.Dec.{eqb}
+use borrow.Author.Tests.{ne-eqb, lt-leb}
 use Rattle.documents.specs.PartList.{Entry, partNumbers, documentNumbers}
-use Rattle.listing.specs.declared.lay.Stage.the-variants.{Count, Path, Children, Child, First, More}
+use Rattle.listing.specs.declared.lay.Stage.the-variants.{Path, Children, Child, More}
 use Rattle.listing.specs.declared.lay.Place.{Place}
 use Rattle.listing.specs.Text.{digits, spaced, feed}
 use Rattle.listing.specs.Lay.{

@@ -1,10 +1,9 @@
 // Numbers of a document or of evidence laid out as text, as much of it as a lent block takes.
-ghost use Prim.Native.Nat.{ℕ, _+_, _≤_, _<_};
+ghost use Prim.Native.Nat.{_+_, _≤_, _<_};
 ghost use mathlib.Core.Path.{_≡_};
 ghost use mathlib.Core.Bool.{true};
-ghost use mathlib.Core.List.{List, [], _∷_, _++_};
+ghost use mathlib.Core.List.{[], _∷_, _++_};
 ghost use lib.ListN.{length, drop};
-ghost use lib.Seq.{sets};
 ghost use Rattle.listing.specs.Text.{digits, spaced, feed, Stored};
 ghost use Rattle.listing.specs.Lay.{consistent, inconsistent, pieceText, nextPart, placeAfter, Lays, LaysRefusal};
 use files::number::Number;

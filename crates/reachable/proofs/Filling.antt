@@ -6,7 +6,7 @@ use mathlib.Core.Bool.{Bool, true, false}
 use mathlib.Core.List.{List}
 use native.Mathlib.Omega.{arith}
 use native.Mathlib.Decide.{ℕ-discrete, decLt}
-use lib.ListN.{length, getD, set, replicate, length-set, length-replicate, getD-replicate, List·getD-eq-default}
+use lib.ListN.{getD, set, replicate, length-set, length-replicate, getD-replicate, List·getD-eq-default}
 use lib.Seq.{getD-set-same, getD-set-other}
 use lib.Dec.{lit<}
 use Rattle.files.specs.Sets.{Has, hasb}
@@ -15,7 +15,7 @@ use Rattle.files.proofs.SetBits.{same-sets, not-has, bit-of-zero, hasb-true, ha
 use Rattle.documents.specs.Paths.{Below, same, up, StrictlyBelow, Descending, depthOf}
 use Rattle.documents.proofs.Paths.{below-le, below-dec, below-strictly, below-comparable, depth-root, depth-child, depth-strictly}
 use Rattle.theory.specs.Walk.{Reach, climb}
-use Rattle.theory.specs.Reachable.{Fits, subtree, alone, reachable}
+use Rattle.theory.specs.Reachable.{Fits, alone, reachable}
 use Rattle.reachable.specs.Arrays.{parentOf, ruleList, Parents, Sound, settled}
 use Rattle.reachable.specs.Known.{DepthsIn, lookup, reached, Word, empty, full, Filled, Filling, Reaches}
 use Rattle.theory.proofs.Walks.{reach-refl, reach-trans, reach-step, reach-start, reach-end}

@@ -3,38 +3,19 @@ use Prim.Native.Nat.{ℕ, zero, suc, _+_, _-_, _^_, _≤_, _<_}
 use mathlib.Core.Path.{_≡_, refl, sym, ap, _∙_, subst}
 use mathlib.Core.Logic.{_⊎_, inl, inr}
 use mathlib.Core.Bool.{Bool, true, false}
-use mathlib.Core.List.{List, [], _∷_}
+use mathlib.Core.List.{List}
 use native.Mathlib.Omega.{arith}
 use native.Mathlib.Nat.{le-trans}
 use native.Mathlib.Numerals.{add-one}
 use lib.Dec.{eqb}
 use lib.ListN.{getD}
-use borrow.Author.Tests.{eq-eqb, ne-eqb, eqb-true, eqb-false}
+use borrow.Author.Tests.{eq-eqb, ne-eqb, eqb-false}
 use Rattle.files.specs.Rules.{rulesFrom}
 use Rattle.files.specs.Sets.{hasb, withPath}
 use Rattle.files.proofs.Collect.{rules-step}
 use Rattle.documents.specs.Paths.{Below, up, Descending, Context, contextOf}
 use Rattle.documents.proofs.Paths.{below-step, below-le, parent-le, contextOf-context, context-is, contextOf-self, contextOf-sym}
-use Rattle.theory.specs.Reachable.{
-  Way,
-  onward,
-  backward,
-  tail,
-  tip,
-  foot,
-  head,
-  goesAlong,
-  goesAgainst,
-  joinChildren,
-  subtree,
-  carry,
-  byRule,
-  byRules,
-  byClimbs,
-  oneStep,
-  settle,
-  alone,
-}
+use Rattle.theory.specs.Reachable.{onward, backward, tail, tip, foot, head, goesAlong, goesAgainst, joinChildren, subtree, carry, byRule, byRules, byClimbs, oneStep, settle, alone}
 use Rattle.reachable.specs.Arrays.{parentOf, ruleOf, ruleList, joinChild, wayOf, climbed, settled}
 use Rattle.theory.proofs.OneStep.{rules-join, climbs-join}
 

@@ -1,7 +1,6 @@
 // Every reachable set worked out once: a word for each path and each path at or above it.
-ghost use Prim.Native.Nat.{ℕ, _+_, _*_, _-_, _≤_, _<_};
+ghost use Prim.Native.Nat.{_+_, _*_, _-_, _≤_, _<_};
 ghost use mathlib.Core.Path.{_≡_};
-ghost use lib.ListN.{getD};
 ghost use Rattle.documents.specs.Paths.{depthOf};
 ghost use Rattle.reachable.specs.Arrays.{parentOf, Parents, Sound};
 ghost use Rattle.reachable.specs.Known.{DepthsIn, lookup, Placed, Filled, Filling, Reaches};

@@ -1,5 +1,5 @@
 // Walks on words: the context of two paths, the paths below one, a step from every path of a set, and the reachable set.
-ghost use Prim.Native.Nat.{ℕ, _≤_, _<_};
+ghost use Prim.Native.Nat.{_≤_, _<_};
 ghost use mathlib.Core.Path.{_≡_};
 ghost use mathlib.Core.Bool.{true};
 ghost use Rattle.documents.specs.Paths.{Descending, contextOf};

@@ -1,11 +1,11 @@
 -- Questions: from a table that passed its test to what the call promises.
-use Prim.Native.Nat.{ℕ, _+_, _%_, _^_, _<_, _≤_}
-use mathlib.Core.Path.{_≡_, refl, sym, ap, subst, _∙_}
-use mathlib.Core.Bool.{Bool, true, false, not, _&&_}
+use Prim.Native.Nat.{ℕ, _%_, _^_, _<_, _≤_}
+use mathlib.Core.Path.{_≡_, sym, ap, subst, _∙_}
+use mathlib.Core.Bool.{Bool, true, false, not}
 use mathlib.Core.List.{List}
 use native.Mathlib.Omega.{arith}
-use lib.Dec.{leb, ltb, eqb}
-use lib.ListN.{length, take, drop, replicate}
+use lib.Dec.{ltb}
+use lib.ListN.{take, replicate}
 use borrow.Author.Tests.{lt-ltb, le-ltb, le-leb, lt-leb, eq-eqb, ne-eqb, not-true, not-false}
 use Rattle.files.specs.declared.rules.Rules.{Rules}
 use Rattle.files.specs.declared.write.Written.{Written}
@@ -16,19 +16,19 @@ use Rattle.files.specs.Writing.{tablePasses, put, wrapped, Puts}
 use Rattle.files.proofs.TableTests.{passes-valid}
 use Rattle.documents.specs.Paths.{Descending, contextOf}
 use Rattle.reasoning.specs.declared.question.Reply.{Reply}
-use Rattle.reachable.specs.Arrays.{parentOf, ruleList, Sound}
-use Rattle.reasoning.specs.Calls.{askable, answerOf, parentsOf, ruleListOf, AnswersQuestion}
+use Rattle.reachable.specs.Arrays.{parentOf, ruleList}
+use Rattle.reasoning.specs.Calls.{askable, answerOf, parentsOf, AnswersQuestion}
 use Rattle.theory.specs.Decide.{clashing}
 use Rattle.handed.specs.Emit.{Writable}
 use Rattle.theory.specs.Evidence.{impliesb, yesb, evidenceNumbers}
-use Rattle.theory.specs.Handed.{handedNumbers, Start, startNo, startBoth, startImplication, startAbsence}
+use Rattle.theory.specs.Handed.{handedNumbers, Start, startNo, startBoth}
 use Rattle.reachable.specs.Known.{Reaches}
 use Rattle.evidence.specs.Layers.{Stored}
-use Rattle.reasoning.specs.Lent.{Passed, LentTable, PassedQuestion, Affirmed, Denied, Countered}
+use Rattle.reasoning.specs.Lent.{PassedQuestion, Affirmed, Denied, Countered}
 use Rattle.evidence.specs.Words.{Decided}
 use Rattle.handed.specs.Writer.{wordFor, startOf}
 use Rattle.reasoning.proofs.CallLaws.{ask-refuses, ask-bars, ask-shows, ask-hands}
-use Rattle.reasoning.proofs.Calling.{taken, passed-sound, passed-table, valid-passed}
+use Rattle.reasoning.proofs.Calling.{taken, passed-table, valid-passed}
 use Rattle.theory.proofs.HandedQuestions.{begins-no}
 use Rattle.theory.proofs.HandedRows.{Begins}
 use Rattle.reasoning.proofs.QuestionJoins.{askable-asked}

@@ -11,7 +11,6 @@ use Rattle.files.specs.declared.rules.Rules.{Rules}
 use Rattle.files.specs.declared.write.Written.{Written}
 use Rattle.files.specs.Number.{limit, bytesOfAll}
 use Rattle.files.specs.Rules.{parentsIn, ValidTable}
-use Rattle.files.specs.Sets.{Has}
 use Rattle.files.specs.Table.{Rule}
 use Rattle.files.specs.Writing.{tablePasses, put, wrapped, Puts}
 use Rattle.files.proofs.TableTests.{passes-valid}
@@ -47,9 +46,8 @@ use Rattle.theory.proofs.HandedRows.{Begins}
 use Rattle.theory.proofs.HandedQuestions.{begins-no}
 use Rattle.reasoning.proofs.Placed.{puts-answer}
 use Rattle.reasoning.proofs.QuestionJoins.{ask-invalid, ask-unasked, ask-yes, ask-no, askable-asked, yes-bounded, ask-answers}
-use Rattle.theory.proofs.Sizes.{numbers-few, bytes-few}
 use Rattle.reasoning.proofs.TableArrays.{arrays-rules, arrays-parents, arrays-sound}
-use Rattle.reasoning.proofs.ValidFits.{table-fits, table-shallow, asked-in}
+use Rattle.reasoning.proofs.ValidFits.{table-fits, table-shallow}
 
 -- the rules as the arrays have them
 abbrev arrayRules : Rules → List Rule
@@ -67,10 +65,6 @@ module _ (t : Rules) (word : t .required < 2 ^ 64) (passes : tablePasses t ≡ t
       → Sound parent (t .kind) (t .left) (t .right) (t .paths) (t .rules)
   passes-sound parent lent = arrays-sound t (passes-valid t word .0 passes) parent lent
 
-  -- the paths asked for are in the table
-  pub passes-asked : (x : ℕ) → Has (askedOf t) x → x < t .paths
-  passes-asked = asked-in t word (passes-valid t word .0 passes)
-
 -- ---- the document's and the evidence's numbers
 
 -- the numbers of a document are at most 449, and it takes at most 65,536 bytes
@@ -83,14 +77,6 @@ module _ (t : Rules) (v : ValidTable t) {R : ℕ → ℕ → ℕ} (words : Reach
   words-bytes : bytesOfAll (handedNumbers (parentsOf t) (t .paths) R start) ≡ documentBytes t start
   unfolding documentBytes
   words-bytes = ap bytesOfAll (numbers-agree (table-fits t v) (table-shallow t v) words begins)
-
-  words-fit : FitsBuffer (handedNumbers (parentsOf t) (t .paths) R start)
-  words-fit =
-      let f = table-fits t v in
-      record {
-        small = numbers-few (f .descending) (f .rulesIn) (f .few) (table-shallow t v) words begins;
-        short = bytes-few (f .descending) (f .rulesIn) (f .few) (table-shallow t v) words begins;
-      }
 
 wrapped-small : (ns : List ℕ) → ((k : ℕ) → List·Memᴰ k ns → k ≤ 512) → wrapped ns ≡ ns
 unfolding wrapped
@@ -126,12 +112,6 @@ module _ (t : Rules) (out : List ℕ) (word : t .required < 2 ^ 64) where
     module _ {R : ℕ → ℕ → ℕ} (words : ReachWords (parentOf parent) (arrayRules t) (t .paths) R) where
       words-of : ReachWords (parentsOf t) (ruleListOf t) (t .paths) R
       words-of = subst₂ (λ (p : ℕ → ℕ) (l : List Rule). ReachWords p l (t .paths) R) parents-same (arrays-rules t) words
-
-      -- the document to be written is short enough
-      pub consistency-fits : FitsBuffer (handedNumbers (parentOf parent) (t .paths) R (startConsistency (askedOf t)))
-      consistency-fits =
-          subst (λ (p : ℕ → ℕ). FitsBuffer (handedNumbers p (t .paths) R (startConsistency (askedOf t)))) (sym parents-same)
-          (words-fit t valid words-of (asked-begins t word valid))
 
       -- consistent: the document was put
       pub consistency-hands : consistentb (parentOf parent) (arrayRules t) (t .paths) (askedOf t) ≡ true
@@ -210,12 +190,6 @@ module _ (t : Rules) (kind p q : ℕ) (out : List ℕ) (word : t .required < 2 ^
     module _ {R : ℕ → ℕ → ℕ} (words : ReachWords (parentOf parent) (arrayRules t) (t .paths) R) where
       words-in : ReachWords (parentsOf t) (ruleListOf t) (t .paths) R
       words-in = subst₂ (λ (z : ℕ → ℕ) (l : List Rule). ReachWords z l (t .paths) R) same-parents (arrays-rules t) words
-
-      -- the counter-document to be written is short enough
-      pub ask-fits : FitsBuffer (handedNumbers (parentOf parent) (t .paths) R (arrayStart t parent kind p q))
-      ask-fits =
-          subst₂ (λ (z : ℕ → ℕ) (l : List Rule). FitsBuffer (handedNumbers z (t .paths) R (startNo z l (t .paths) kind p q)))
-          (sym same-parents) (sym (arrays-rules t)) (words-fit t sound words-in (counter-begins .1))
 
       -- no: the counter-document was put
       pub ask-hands : yesb (parentOf parent) (arrayRules t) (t .paths) kind p q ≡ false → (w : Written) (r : Reply) (after : List ℕ)

@@ -18,14 +18,14 @@ use Rattle.files.proofs.TableTests.{passes-valid}
 use Rattle.reasoning.specs.declared.consistency.Verdict.{Verdict}
 use Rattle.reasoning.specs.declared.question.Reply.{Reply}
 use Rattle.reachable.specs.Arrays.{parentOf, ruleList, Parents, Sound}
-use Rattle.reasoning.specs.Calls.{askedOf, parentsOf, answerOf, DecidesConsistency}
+use Rattle.reasoning.specs.Calls.{parentsOf, answerOf, DecidesConsistency}
 use Rattle.handed.specs.Emit.{Writable}
 use Rattle.theory.specs.Evidence.{consistentb, inconsistentNumbers}
 use Rattle.theory.specs.Decide.{clashing}
 use Rattle.reachable.specs.Known.{Reaches, Known}
 use Rattle.evidence.specs.Layers.{Stored}
 use Rattle.evidence.specs.Words.{Decided}
-use Rattle.theory.specs.Handed.{handedNumbers, startConsistency}
+use Rattle.theory.specs.Handed.{handedNumbers}
 use Rattle.reasoning.specs.Lent.{Passed, LentTable, Witnessed, Conflicting}
 use Rattle.handed.specs.Writer.{wordFor, startOf}
 use Rattle.reasoning.proofs.CallLaws.{consistency-refuses, consistency-hands, consistency-shows, passes-sound}
@@ -135,9 +135,6 @@ taken ns before after most n s room =
     ∙ take-at ns (drop (0 + length ns) before) n (omega (arith, s .end))
 
 module _ (t : Rules) (word : t .required < 2 ^ 64) (parent depth table : List ℕ) (clash asked : ℕ) (h : Conflicting t parent depth table clash asked) where
-  pub conflict-decided : Decided parent (t .kind) (t .left) (t .right) (t .paths) (t .rules) depth table clash
-  conflict-decided = record { known = h .lent .known; clashes = h .clashes }
-
   pub conflict-put : (numbers out : List ℕ) (n : ℕ)
       → Stored (inconsistentNumbers (parentOf parent) (ruleList (t .kind) (t .left) (t .right) (t .rules)) (t .paths) asked) 199 (replicate 400 0) 0 numbers n
       → (w : Written) (r : Verdict) (after : List ℕ) → Puts (put (bytesOfAll (wrapped (take n numbers))) out) w after
@@ -149,8 +146,6 @@ module _ (t : Rules) (word : t .required < 2 ^ 64) (parent depth table : List �
       (taken _ (replicate 400 0) numbers 199 n s (omega arith)
       ∙ ap (inconsistentNumbers (parentOf parent) (ruleList (t .kind) (t .left) (t .right) (t .rules)) (t .paths)) (h .asked-is))
       w r after p g
-
-pub ruleset passed-laws = (passed-sound, passed-parents, passed-known, passed-decided, passed-witnessed, passed-conflicting)
 
 -- as many numbers are lent as were collected
 pub lent-some : (ns before after : List ℕ) (most n : ℕ) → Stored ns most before 0 after n → most ≤ length before → n ≡ length (take n after)

@@ -1,49 +1,19 @@
 -- A valid table as the code lends it out: its arrays are sound, stand for its parents and rules, and the sets looked up in the
 -- table of words are its reachable sets.
-use Prim.Native.Nat.{ℕ, _^_, _≤_, _<_}
+use Prim.Native.Nat.{ℕ, _≤_, _<_}
 use mathlib.Core.Path.{_≡_, refl, sym, ap, subst, fun-ext, _∙_}
-use mathlib.Core.Logic.{_↔_}
 use mathlib.Core.List.{List}
 use native.Mathlib.Omega.{arith}
 use lib.ListN.{getD}
 use Rattle.files.specs.declared.rules.Rules.{Rules}
 use Rattle.files.specs.Rules.{parentsIn, rulesOf, ValidTable}
-use Rattle.files.specs.Sets.{Has}
 use Rattle.files.proofs.Tables.{rules-length, parents-are}
-use Rattle.documents.specs.Paths.{Below, Descending, depthOf}
-use Rattle.documents.proofs.Paths.{below-le}
+use Rattle.documents.specs.Paths.{Descending, depthOf}
 use Rattle.documents.proofs.CheckingJoins.{few-paths, descending}
 use Rattle.reachable.specs.Arrays.{parentOf, ruleList, Sound}
 use Rattle.reasoning.specs.Calls.{parentsOf, ruleListOf}
-use Rattle.theory.specs.Handed.{ReachWords}
-use Rattle.reachable.specs.Known.{lookup, reached, Reaches}
 use Rattle.theory.specs.Parts.{RulesIn}
-use Rattle.theory.specs.Reachable.{reachable}
-use Rattle.theory.specs.Walk.{Reach}
-use Rattle.reachable.proofs.Filling.{sound-fits}
-use Rattle.theory.proofs.HandedDocuments.{reachable-words}
 use Rattle.reasoning.proofs.ValidFits.{table-fits, table-shallow}
-
--- words that agree with those looked up are words of the reachable sets
-pub looked-up : {parent kind left right : List ℕ} {count many : ℕ} {R : ℕ → ℕ → ℕ} (depth table : List ℕ)
-    → Sound parent kind left right count many → Reaches parent kind left right count many depth table
-    → ((c x : ℕ) → c < count → x < count → R c x ≡ lookup depth table c x)
-    → ReachWords (parentOf parent) (ruleList kind left right many) count R
-unfolding reached
-looked-up {parent} {kind} {left} {right} {count} {many} {R} depth table sound reaches agree =
-    let words = reachable-words (sound-fits sound) in
-    record {
-      small = λ c x b l. subst (λ (w : ℕ). w < 2 ^ 64) (sym (same c x b l)) (words .small c x b l);
-      exactly = λ c x y b l.
-          subst (λ (w : ℕ). Has w y ↔ Reach (parentOf parent) (ruleList kind left right many) c x y) (sym (same c x b l))
-          (words .exactly c x y b l);
-    }
-  where
-    same : (c x : ℕ) → Below (parentOf parent) c x → x < count
-        → R c x ≡ reachable (parentOf parent) (ruleList kind left right many) count c x
-    same c x b l =
-        let k = below-le (sound .parents .descending) b in
-        agree c x (omega arith) l ∙ reaches .each c x (omega arith) l
 
 -- the arrays of rules stand for the rules
 pub arrays-rules : (t : Rules) → ruleList (t .kind) (t .left) (t .right) (t .rules) ≡ ruleListOf t

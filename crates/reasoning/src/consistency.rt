@@ -1,8 +1,5 @@
-// Whether rules are consistent with the required paths.
-ghost use Prim.Native.Nat.{_≤_};
 ghost use mathlib.Core.Path.{_≡_};
-ghost use mathlib.Core.Bool.{true, false};
-ghost use Rattle.reasoning.specs.Calls.{answerOf, askedOf, DecidesConsistency};
+ghost use Rattle.reasoning.specs.Calls.{answerOf, DecidesConsistency};
 ghost use Rattle.reasoning.specs.Lent.{Passed, Witnessed, Conflicting};
 use evidence::choose::clashing;
 use evidence::collect::consistent;

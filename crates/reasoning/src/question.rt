@@ -1,8 +1,6 @@
-// Questions to the rules.
-ghost use Prim.Native.Nat.{ℕ};
 ghost use mathlib.Core.Path.{_≡_};
 ghost use Rattle.reasoning.specs.Calls.{answerOf, askable, AnswersQuestion};
-ghost use Rattle.reasoning.specs.Lent.{Passed, Affirmed, Denied, Countered, PassedQuestion};
+ghost use Rattle.reasoning.specs.Lent.{Affirmed, Denied, Countered, PassedQuestion};
 use evidence::choose::clashing;
 use evidence::collect::implies;
 use evidence::collect::put_evidence;

@@ -2,11 +2,11 @@
 use Prim.Native.Nat.{ℕ, zero, suc, _+_, _-_, _≤_, _<_}
 use mathlib.Core.Path.{_≡_, refl, sym, subst}
 use mathlib.Core.Logic.{_⊎_, inl, inr}
-use mathlib.Core.List.{List, [], _∷_, _++_}
+use mathlib.Core.List.{List, [], _∷_}
 use native.Mathlib.Omega.{arith}
 use native.Mathlib.Nat.{add-zero}
 use native.Mathlib.Decide.{decLe}
-use lib.ListN.{length, length-append}
+use lib.ListN.{length}
 use Rattle.files.specs.Table.{Rule}
 use Rattle.files.specs.Sets.{bit, Has, withPath, sizeBelow, size}
 use Rattle.files.proofs.SetBits.{has-with, not-has, bit-of-zero, bit-absent}
@@ -15,7 +15,6 @@ use Rattle.documents.specs.Paths.{Below}
 use Rattle.theory.specs.Walk.{Walk, stay, step}
 use Rattle.theory.specs.Written.{Before, shorter, Written}
 use Rattle.theory.specs.Reachable.{Fits}
-use Rattle.theory.proofs.Walks.{walk-append}
 use Rattle.theory.proofs.Reachable.{step-in-table}
 
 -- no walk between the same paths inside c has fewer steps
@@ -46,15 +45,6 @@ size-under w n l h =
         let e : n + suc k ≡ suc (n + k) = omega arith in
         let past : bit w (n + k) ≡ 0 = bit-absent w (n + k) (λ p. let q : n + k < n = h (n + k) p in omega arith) in
         rw e (omega (arith, upto k (omega arith), size-below-suc w (n + k)))
-
--- a walk that comes back to z can leave out what lies between
-pub walk-cut : {parent : ℕ → ℕ} {rules : List Rule} {c x y z code : ℕ} {front between back : List ℕ}
-    → Walk parent rules c x front z → Walk parent rules c z (code ∷ between) z → Walk parent rules c z back y
-    → Walk parent rules c x (front ++ back) y × (length (front ++ back) < length (front ++ ((code ∷ between) ++ back)))
-walk-cut {code = code} {front = front} {between = between} {back = back} v loop w = (
-  walk-append v w,
-  omega (arith, length-append front back, length-append front ((code ∷ between) ++ back), length-append between back),
-)
 
 -- the set of the paths that a walk of n steps to y visits: from each of them a walk of at most n steps leads to y
 record Visits (parent : ℕ → ℕ) (rules : List Rule) (c count n y s : ℕ) : Type 0 where

@@ -1,7 +1,7 @@
 -- E1 to E11 of 01, by computation.
 use Prim.Native.Nat.{ℕ}
 use mathlib.Core.Path.{_≡_, refl}
-use mathlib.Core.List.{List, map}
+use mathlib.Core.List.{map}
 use lib.Count.{leadingZeros, trailingZeros}
 use Rattle.files.specs.Number.{bytesOf, bytesOfAll}
 use Rattle.files.specs.Sets.{

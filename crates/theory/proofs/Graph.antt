@@ -1,9 +1,8 @@
 -- Source document 000 is wrong where a chain of rules leaves the context and comes back: its transitivity (proposition 2.5), its
 -- theorem 3.11 and its consistency test (theorem 3.7, algorithm 3.9), each by a document of table T.
 use Prim.Native.Nat.{ℕ, zero, suc, _≤_, _<_}
-use mathlib.Core.Path.{_≡_, refl, sym, subst, _∙_}
+use mathlib.Core.Path.{refl, sym}
 use mathlib.Core.Logic.{inl}
-use mathlib.Core.Bool.{true, false}
 use mathlib.Core.List.{List, [], _∷_, List·Memᴰ, List·Memᴰ·head, List·Memᴰ·tail}
 use native.Mathlib.Omega.{arith}
 use lib.Dec.{T, lit≤}
@@ -13,23 +12,11 @@ use Rattle.documents.specs.Tree.{Forest, Document}
 use Rattle.documents.specs.Obey.{Implication}
 use Rattle.theory.specs.Walk.{along}
 use Rattle.theory.specs.Follows.{Implied, Consistent}
-use Rattle.theory.specs.Parts.{RulesIn}
 use Rattle.theory.specs.Reachable.{Fits}
 use Rattle.theory.specs.Decide.{askedIn}
 use Rattle.theory.specs.Evidence.{impliesb, consistentb}
 use Rattle.theory.specs.Examples.{implies, excludes, pathsT, rulesE1, rulesE2}
-use Rattle.theory.specs.Graph.{
-  ImplicationPath,
-  empty,
-  edge,
-  Contradiction,
-  straight,
-  GraphInconsistent,
-  implied,
-  Mentioned,
-  left,
-  right,
-}
+use Rattle.theory.specs.Graph.{ImplicationPath, empty, edge, straight, GraphInconsistent, implied, Mentioned, left, right}
 use Rattle.theory.proofs.Answers.{implies-every, consistent-some}
 use Rattle.theory.proofs.HandedDocuments.{begins-implication, document-tree, implication-document}
 use Rattle.theory.proofs.Examples.{computing}

@@ -56,7 +56,7 @@ use Rattle.theory.proofs.HandedKids.{meet-one}
 use Rattle.theory.proofs.HandedRows.{Begins, one-word}
 use Rattle.theory.proofs.Order.{document-unique}
 use Rattle.theory.proofs.Handed.{handed-writes}
-use Rattle.theory.proofs.Sizes.{parts-few, bytes-few, numbers-few}
+use Rattle.theory.proofs.Sizes.{parts-few, bytes-few}
 use Rattle.theory.proofs.HandedTree.{
   document-valid,
   document-stands,
@@ -192,10 +192,6 @@ module _ {parent : ℕ → ℕ} {rules : List Rule} {count : ℕ} (fits : Fits p
       -- at most 65,536 bytes
       pub document-bytes : length (bytesOfAll (handedNumbers parent count (reachable parent rules count) start)) ≤ 65536
       document-bytes = bytes-few (fits .descending) (fits .rulesIn) (fits .few) shallow reachable-words begins
-
-      -- each number at most 449
-      pub document-numbers : (n : ℕ) → List·Memᴰ n (handedNumbers parent count (reachable parent rules count) start) → n ≤ 449
-      document-numbers = numbers-few (fits .descending) (fits .rulesIn) (fits .few) shallow reachable-words begins
 
       -- a part list that breaks no condition of 01
       pub document-part-list : ValidParts parent count (handedEntries parent count (reachable parent rules count) start)

@@ -318,12 +318,6 @@ module _ {parent : ℕ → ℕ} {rules : List Rule} {count : ℕ} {R : ℕ → �
         let b = towards-below desc (record { below = reach-end (r .reach); other = n }) in
         words .exactly (towards parent c x) x x b l .1 (reach-refl b)
 
-    -- a path that the part reaches, other than its own, is covered by the child that it would get
-    pub reached-itself : (x : ℕ) → Has (withoutPath (reachAll parent count R c w) c) x → Has (R (towards parent c x) x) x
-    reached-itself x h =
-        let r = has-without (reachAll parent count R c w) c x .0 h in
-        itself x (any-small desc within v (reached-any x (r .1))) (λ e. r .0 (sym e)) (covers-word parent R word count c x .1 (r .1))
-
     -- what the part reaches and its own children do not cover
     module _ {top : ℕ} {handed : Bool} (mode : Mode parent c goals top handed) where
       left-iff : (x : ℕ) → x < count

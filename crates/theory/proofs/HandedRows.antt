@@ -120,11 +120,6 @@ module _ (parent : ℕ → ℕ) (count : ℕ) (R : ℕ → ℕ → ℕ) (start :
       (named-more c (goalsOn parent count R start c named) named l (is 0 (omega arith) ∙ ap row (add-zero c)) h)
       (λ j q. let f : c + suc j ≡ suc c + j = omega arith in rw f at (is (suc j) (omega arith))) i (omega arith))
 
-  rows-length : (left c : ℕ) (named : List ℕ) → length (rowsFrom parent count R start left c named) ≡ left
-  unfolding rowsFrom
-  rows-length zero c named = refl
-  rows-length (suc left) c named = ap suc (rows-length left (suc c) _)
-
   module _ (desc : Descending parent) where
     laws : (k : ℕ) → k < count → (k ≡ 0 → row k ≡ rootGoals parent count R start) × (0 < k → row k ≡ rowNext k)
     unfolding goalRows

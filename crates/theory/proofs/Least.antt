@@ -51,11 +51,6 @@ module _ (test : ℕ → Bool) where
           earlier j h k t (yes p) = rw (← p, e) at t
           earlier j h k t (no n) = again .before j (omega arith) k t
 
-  -- it is at most n
-  pub least-le : (n : ℕ) → least test n ≤ n
-  unfolding least
-  least-le n = omega (arith, first-law n 0 .upto)
-
   -- below n it passes
   pub least-passes : (n : ℕ) → least test n < n → T (test (least test n))
   unfolding least

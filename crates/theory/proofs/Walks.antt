@@ -61,11 +61,6 @@ module _ {parent : ℕ → ℕ} {rules : List Rule} where
   walk-append (stay h) v = v
   walk-append (step h s w) v = step h s (walk-append w v)
 
-  -- a walk and one step more
-  pub walk-last : {c x y z code : ℕ} {s : List ℕ} → Walk parent rules c x s y → Step parent rules y code z → Below parent c z
-      → Walk parent rules c x (s ++ (code ∷ [])) z
-  walk-last w s h = walk-append w (step (walk-end w) s (stay h))
-
   -- a walk inside c is one inside every prefix of c
   pub walk-prefix : {d c x y : ℕ} {codes : List ℕ} → Below parent d c → Walk parent rules c x codes y → Walk parent rules d x codes y
   walk-prefix d (stay h) = stay (below-trans d h)

@@ -23,16 +23,6 @@ compared a b = pick (decLt a b) (decLt b a)
     pick (no h) (yes k) = more k
     pick (no h) (no k) = equal (omega arith)
 
--- nothing is smaller than itself
-pub smaller-irreflexive : {s : List ℕ} → Smaller s s → ⊥
-smaller-irreflexive (here h e) = omega arith
-smaller-irreflexive (later h) = smaller-irreflexive h
-
--- nothing comes before itself
-pub before-irreflexive : {s : List ℕ} → Before s s → ⊥
-before-irreflexive (shorter h) = omega arith
-before-irreflexive (smaller h) = smaller-irreflexive h
-
 -- two lists of one length: equal, or one is smaller
 pub smaller-total : (s t : List ℕ) → length s ≡ length t → Smaller s t ⊎ ((s ≡ t) ⊎ Smaller t s)
 smaller-total [] [] e = inr (inl refl)

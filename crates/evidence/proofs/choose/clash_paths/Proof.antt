@@ -5,7 +5,7 @@ use Rattle.evidence.proofs.choose.clash_paths.Lts as lts
 use Rattle.evidence.proofs.choose.both.Reads as both-reads
 use Rattle.evidence.proofs.choose.join_if.Reads as join-if-reads
 use borrow.Author.Needs.{needs}
-use Prim.Native.Nat.{_-_, _≤_}
+use Prim.Native.Nat.{_-_}
 use mathlib.Core.Path.{_≡_}
 use Rattle.evidence.specs.Words.{joinPassing, bothIn}
 use Rattle.evidence.proofs.Choosing.{placed-laws, passing-laws, passing-on}

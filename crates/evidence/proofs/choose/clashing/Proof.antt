@@ -5,7 +5,7 @@ use Rattle.evidence.proofs.choose.clashing.Lts as lts
 use Rattle.evidence.proofs.choose.clash_by.Reads as clash-by-reads
 use Rattle.reachable.proofs.steps.wide.Reads as wide-reads
 use borrow.Author.Needs.{needs}
-use Prim.Native.Nat.{_-_, _≤_}
+use Prim.Native.Nat.{_-_}
 use mathlib.Core.Path.{_≡_}
 use Rattle.files.specs.Rules.{rulesFrom}
 use Rattle.reachable.specs.Arrays.{ruleList}

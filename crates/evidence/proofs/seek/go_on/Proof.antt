@@ -4,7 +4,7 @@ use Rattle.evidence.proofs.seek.go_on.Reads as reads
 use Rattle.evidence.proofs.seek.go_on.Lts as lts
 use Rattle.evidence.proofs.seek.least_move.Reads as least-move-reads
 use borrow.Author.Needs.{needs}
-use Prim.Native.Nat.{_+_, _-_, _≤_, _<_}
+use Prim.Native.Nat.{_+_, _≤_, _<_}
 use mathlib.Core.Path.{_≡_}
 use lib.Seq.{sets}
 use Rattle.reachable.specs.Arrays.{parentOf, ruleList}

@@ -5,7 +5,7 @@ use Rattle.evidence.proofs.seek.rule_move.Lts as lts
 use Rattle.evidence.proofs.seek.turn.Reads as turn-reads
 use Rattle.reachable.proofs.steps.wide.Reads as wide-reads
 use borrow.Author.Needs.{needs}
-use Prim.Native.Nat.{_+_, _-_, _≤_, _<_}
+use Prim.Native.Nat.{_-_}
 use mathlib.Core.Path.{_≡_}
 use Rattle.files.specs.Rules.{rulesFrom}
 use Rattle.reachable.specs.Arrays.{ruleList}

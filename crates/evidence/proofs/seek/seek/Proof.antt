@@ -5,7 +5,7 @@ use Rattle.evidence.proofs.seek.seek.Lts as lts
 use Rattle.files.proofs.sets.has.Reads as has-reads
 use Rattle.reachable.proofs.steps.one_step.Reads as one-step-reads
 use borrow.Author.Needs.{needs}
-use Prim.Native.Nat.{_+_, _-_, _≤_, _<_}
+use Prim.Native.Nat.{_-_, _≤_}
 use mathlib.Core.Path.{_≡_}
 use mathlib.Core.List.{[]}
 use lib.ListN.{length}

@@ -5,7 +5,6 @@ use Rattle.files.proofs.read.read_paths.Lts as lts
 use Rattle.files.proofs.read.read_path.Reads as read-path-reads
 use borrow.Author.Needs.{needs}
 use Prim.Native.Nat.{_-_}
-use Rattle.files.proofs.Reader.{paths-own}
 use Rattle.files.proofs.ReaderPaths.{PathsSoFar, paths-laws}
 
 abbrev Inv-loop : tie.InvT-loop

@@ -4,7 +4,7 @@ use Rattle.files.proofs.rules.parents.Reads as reads
 use Rattle.files.proofs.rules.parents.Lts as lts
 use Rattle.files.proofs.rules.first_of.Reads as first-of-reads
 use borrow.Author.Needs.{needs}
-use Prim.Native.Nat.{_-_, _≤_}
+use Prim.Native.Nat.{_-_}
 use Rattle.files.proofs.Tables.{ParentsSoFar, parents-laws}
 
 abbrev Inv-loop : tie.InvT-loop

@@ -5,7 +5,7 @@ use Rattle.reachable.proofs.reach.fill_inside.Lts as lts
 use Rattle.reachable.proofs.reach.fill_word.Reads as fill-word-reads
 use Rattle.reachable.proofs.steps.subtree.Reads as subtree-reads
 use borrow.Author.Needs.{needs}
-use Prim.Native.Nat.{_-_, _≤_}
+use Prim.Native.Nat.{_-_}
 use mathlib.Core.Path.{_≡_}
 use Rattle.theory.specs.Reachable.{subtree}
 use Rattle.reachable.specs.Arrays.{parentOf}

@@ -4,7 +4,7 @@ use Rattle.reachable.proofs.reach.reach_table.Reads as reads
 use Rattle.reachable.proofs.reach.reach_table.Lts as lts
 use Rattle.reachable.proofs.reach.fill_inside.Reads as fill-inside-reads
 use borrow.Author.Needs.{needs}
-use Prim.Native.Nat.{_-_, _≤_}
+use Prim.Native.Nat.{_-_}
 use Rattle.reachable.specs.Known.{Filled}
 use Rattle.reachable.proofs.Filling.{fill-laws}
 

@@ -4,7 +4,7 @@ use Rattle.reachable.proofs.steps.settle.Reads as reads
 use Rattle.reachable.proofs.steps.settle.Lts as lts
 use Rattle.reachable.proofs.steps.one_step.Reads as one-step-reads
 use borrow.Author.Needs.{needs}
-use Prim.Native.Nat.{_-_, _^_, _≤_, _<_}
+use Prim.Native.Nat.{_-_, _^_, _<_}
 use mathlib.Core.Path.{_≡_}
 use mathlib.Core.Bool.{false}
 use Rattle.theory.specs.Reachable.{oneStep}

@@ -9,7 +9,7 @@ use Rattle.reasoning.proofs.question.answer.Reads as answer-reads
 use Rattle.reasoning.proofs.question.can_ask.Reads as can-ask-reads
 use native.Mathlib.Omega.{arith}
 use Rattle.reasoning.proofs.Asking.{invalid-barred, unasked-barred, question-passed, answers-byte}
-use borrow.Author.Tests.{not-true, not-false}
+use borrow.Author.Tests.{not-false}
 use mathlib.Core.Path.{sym, _∙_}
 
 valid-table-requires : tie.Need-valid-table-requires

@@ -7,7 +7,6 @@ use Rattle.files.proofs.sets.with.Reads as with-reads
 use Rattle.evidence.proofs.collect.implies.Reads as implies-reads
 use Rattle.reasoning.proofs.question.put_counter.Reads as put-counter-reads
 use Rattle.reachable.proofs.steps.context.Reads as context-reads
-use native.Mathlib.Omega.{arith}
 use Rattle.reasoning.proofs.Asking.{no-context, no-requires, no-implication, no-absence, no-back, no-there}
 
 with-requires : tie.Need-with-requires
