@@ -1,0 +1,132 @@
+// Random sets tried: the verdict and every question against the search, every document checked, every evidence replayed.
+use crate::calls::CONSISTENT;
+use crate::calls::Call;
+use crate::calls::DENIED;
+use crate::calls::INCONSISTENT;
+use crate::calls::ROOM;
+use crate::calls::YES;
+use crate::calls::ask_again;
+use crate::calls::run;
+use crate::handed::BROKEN;
+use crate::handed::OBEYS;
+use crate::handed::by_question;
+use crate::handed::by_rules;
+use crate::handed::judged;
+use crate::marks::mark;
+use crate::random::random_set;
+use crate::replay::replay_inconsistent;
+use crate::replay::replay_yes;
+use crate::rounds::there_and_back;
+use crate::score::DOCUMENTS;
+use crate::score::EVIDENCE;
+use crate::score::QUESTIONS;
+use crate::score::VERDICTS;
+use crate::score::note;
+use crate::search::Families;
+use crate::search::families_of;
+use crate::search::some_counter;
+use crate::search::some_document;
+use crate::small::SmallSet;
+use crate::small::rules_of;
+use files::rules::Rules;
+
+const SETS: u64 = 4;
+
+// The document or the evidence of a verdict.
+fn try_handed(score: &mut [u32; 32], case: u64, set: SmallSet, rules: Rules, sound: bool, s: &[u8]) {
+    if sound {
+        note(score, DOCUMENTS, case, OBEYS, judged(rules, s));
+        return;
+    }
+    let end = replay_inconsistent(set, s);
+    note(score, EVIDENCE, case, s.len() as u64, end as u64);
+}
+
+fn try_verdict(score: &mut [u32; 32], case: u64, set: SmallSet, rules: Rules, sound: bool) {
+    let mut room = [0u8; ROOM];
+    mark(&mut room);
+    let got = run(rules, Call::Decide, &mut room);
+    let expected = if sound { CONSISTENT } else { INCONSISTENT };
+    note(score, VERDICTS, case, expected, got.answer);
+    let n = got.length;
+    if n <= ROOM {
+        try_handed(score, case, set, rules, sound, &room[..n]);
+    }
+    ask_again(score, case, rules, Call::Decide, got, &room);
+}
+
+// The counter-document or the evidence of a question's answer.
+fn try_reply(
+    score: &mut [u32; 32],
+    case: u64,
+    set: SmallSet,
+    kind: u8,
+    p: usize,
+    q: usize,
+    countered: bool,
+    s: &[u8],
+) {
+    if countered {
+        note(score, DOCUMENTS, case, OBEYS, by_rules(set, s));
+        let broken = by_question(set, kind as usize, p, q, s);
+        note(score, DOCUMENTS, case, BROKEN, broken);
+        return;
+    }
+    let end = replay_yes(set, s, kind, p, q);
+    note(score, EVIDENCE, case, s.len() as u64, end as u64);
+}
+
+fn try_question(
+    score: &mut [u32; 32],
+    case: u64,
+    set: SmallSet,
+    rules: Rules,
+    kind: u8,
+    p: usize,
+    q: usize,
+    countered: bool,
+) {
+    let mut room = [0u8; ROOM];
+    mark(&mut room);
+    let call = Call::Ask(kind as usize, p, q);
+    let got = run(rules, call, &mut room);
+    let expected = if countered { DENIED } else { YES };
+    note(score, QUESTIONS, case, expected, got.answer);
+    let n = got.length;
+    if n <= ROOM {
+        try_reply(score, case, set, kind, p, q, countered, &room[..n]);
+    }
+    ask_again(score, case, rules, call, got, &room);
+}
+
+// Every question of every kind.
+fn try_questions(score: &mut [u32; 32], case: u64, set: SmallSet, families: Families) {
+    let rules = rules_of(set);
+    for i in 0..192usize {
+        let kind = (1 + i / 64) as u8;
+        let p = i / 8 % 8;
+        let q = i % 8;
+        if p < set.paths {
+            if q < set.paths {
+                let countered = some_counter(set, families, kind, p, q);
+                try_question(score, case + i as u64, set, rules, kind, p, q, countered);
+            }
+        }
+    }
+}
+
+fn try_set(score: &mut [u32; 32], number: u64) {
+    let set = random_set(number);
+    let rules = rules_of(set);
+    let case = number % 1000000 * 1000;
+    let families = families_of(set);
+    there_and_back(score, case, rules);
+    try_verdict(score, case, set, rules, some_document(set, families));
+    try_questions(score, case, set, families);
+}
+
+pub fn try_sets(score: &mut [u32; 32]) {
+    for number in 0..SETS {
+        try_set(score, number);
+    }
+}
