@@ -30,7 +30,7 @@ use crate::small::SmallSet;
 use crate::small::rules_of;
 use files::rules::Rules;
 
-const SETS: u64 = 4;
+const SETS: u64 = 2400;
 
 // The document or the evidence of a verdict.
 fn try_handed(score: &mut [u32; 32], case: u64, set: SmallSet, rules: Rules, sound: bool, s: &[u8]) {
