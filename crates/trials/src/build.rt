@@ -1,4 +1,5 @@
 // Rule files and documents of a given size, built in a buffer.
+ghost use Prim.Native.Nat.{_≤_};
 
 // A number stored where there is room; the place after it.
 fn put(out: &mut [u8; 4096], at: usize, n: u32) -> usize {
@@ -26,7 +27,9 @@ fn put_paths(out: &mut [u8; 4096], count: u32, chained: bool) -> usize {
 }
 
 // Every path but the root is required.
-fn put_required(out: &mut [u8; 4096], from: usize, paths: u32) -> usize {
+fn put_required(out: &mut [u8; 4096], from: usize, paths: u32) -> usize
+    requires { ⌜ 1 ≤ paths ⌝ }
+{
     let mut at = put(out, from, paths - 1);
     for x in 1..paths {
         at = put(out, at, x);
@@ -46,14 +49,18 @@ fn put_rules(out: &mut [u8; 4096], from: usize, count: u32) -> usize {
 }
 
 // A rule file with so many paths and rules.
-pub fn put_file(out: &mut [u8; 4096], paths: u32, chained: bool, rules: u32) -> usize {
+pub fn put_file(out: &mut [u8; 4096], paths: u32, chained: bool, rules: u32) -> usize
+    requires { ⌜ 1 ≤ paths ⌝ }
+{
     let after = put_paths(out, paths, chained);
     let next = put_required(out, after, paths);
     put_rules(out, next, rules)
 }
 
 // The children of part 0: every other part.
-fn put_children(out: &mut [u8; 4096], from: usize, parts: u32) -> usize {
+fn put_children(out: &mut [u8; 4096], from: usize, parts: u32) -> usize
+    requires { ⌜ 1 ≤ parts ⌝ }
+{
     let mut at = put(out, from, parts - 1);
     for n in 1..parts {
         at = put(out, at, n);
@@ -62,7 +69,9 @@ fn put_children(out: &mut [u8; 4096], from: usize, parts: u32) -> usize {
 }
 
 // A document with so many parts: all but part 0 on path 1, below it.
-pub fn put_parts(out: &mut [u8; 4096], parts: u32) -> usize {
+pub fn put_parts(out: &mut [u8; 4096], parts: u32) -> usize
+    requires { ⌜ 1 ≤ parts ⌝ }
+{
     let mut at = put(out, 0, parts);
     at = put(out, at, 0);
     at = put_children(out, at, parts);

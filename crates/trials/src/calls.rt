@@ -89,6 +89,14 @@ pub fn run(rules: Rules, call: Call, out: &mut [u8]) -> Outcome {
     }
 }
 
+fn agreeing_room(bytes: &[u8], room: &[u8; ROOM]) -> usize {
+    agreeing(bytes, room)
+}
+
+fn unmarked_room(room: &[u8; ROOM], from: usize) -> usize {
+    unmarked(room, from)
+}
+
 // With a buffer of exactly the answer's length: the same answer, and nothing past it.
 fn ask_exact(
     score: &mut [u32; 32],
@@ -106,13 +114,13 @@ fn ask_exact(
     }
     let got = run(rules, call, &mut room[..n]);
     note(score, BUFFERS, case, told(first), told(got));
-    note(score, BUFFERS, case, n as u64, agreeing(bytes, &room) as u64);
+    note(score, BUFFERS, case, n as u64, agreeing_room(bytes, &room) as u64);
     note(
         score,
         BUFFERS,
         case,
         ROOM as u64,
-        unmarked(&room, n) as u64,
+        unmarked_room(&room, n) as u64,
     );
 }
 
@@ -134,7 +142,7 @@ fn ask_short(score: &mut [u32; 32], case: u64, rules: Rules, call: Call, length:
         BUFFERS,
         case,
         ROOM as u64,
-        unmarked(&room, 0) as u64,
+        unmarked_room(&room, 0) as u64,
     );
 }
 

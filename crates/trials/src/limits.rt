@@ -1,4 +1,5 @@
 // The limits of 01: the last that is accepted and the first that is refused.
+ghost use Prim.Native.Nat.{_≤_};
 use crate::build::put_file;
 use crate::build::put_parts;
 use crate::calls::CONSISTENT;
@@ -45,15 +46,47 @@ fn try_accepted(score: &mut [u32; 32], case: u64, file: &[u8]) {
     try_witness(score, case, reading.rules);
 }
 
+fn try_accepted_start(score: &mut [u32; 32], case: u64, room: &[u8], n: usize) {
+    if n <= room.len() {
+        try_accepted(score, case, &room[..n]);
+    }
+}
+
+fn reading_of_start(room: &[u8], n: usize) -> Outcome {
+    if n <= room.len() {
+        return reading_of(&room[..n]);
+    }
+    refused(0, n)
+}
+
+fn checking_of_start(rules: Rules, room: &[u8], n: usize) -> Outcome {
+    if n <= room.len() {
+        return checking_of(rules, &room[..n]);
+    }
+    refused(0, n)
+}
+
+fn try_accepted_room(score: &mut [u32; 32], case: u64, room: &[u8; 4096], n: usize) {
+    try_accepted_start(score, case, room, n);
+}
+
+fn reading_of_room(room: &[u8; 4096], n: usize) -> Outcome {
+    reading_of_start(room, n)
+}
+
+fn checking_of_room(rules: Rules, room: &[u8; 4096], n: usize) -> Outcome {
+    checking_of_start(rules, room, n)
+}
+
 // A file of so many paths and rules that is accepted; its length.
-fn accept(score: &mut [u32; 32], paths: u32, chained: bool, rules: u32, length: usize) {
+fn accept(score: &mut [u32; 32], paths: u32, chained: bool, rules: u32, length: usize)
+    requires { ⌜ 1 ≤ paths ⌝ }
+{
     let mut room = [0u8; 4096];
     let n = put_file(&mut room, paths, chained, rules);
     let case = paths as u64;
     note(score, LIMITS, case, length as u64, n as u64);
-    if n <= 4096 {
-        try_accepted(score, case, &room[..n]);
-    }
+    try_accepted_room(score, case, &room, n);
 }
 
 fn refuse(
@@ -63,32 +96,24 @@ fn refuse(
     rules: u32,
     number: u8,
     place: usize,
-) {
+)
+    requires { ⌜ 1 ≤ paths ⌝ }
+{
     let mut room = [0u8; 4096];
     let n = put_file(&mut room, paths, chained, rules);
-    if n <= 4096 {
-        note_told(
-            score,
-            paths as u64,
-            refused(number, place),
-            reading_of(&room[..n]),
-        );
-    }
+    let got = reading_of_room(&room, n);
+    note_told(score, paths as u64, refused(number, place), got);
 }
 
 // A document with so many parts.
-fn try_parts(score: &mut [u32; 32], parts: u32, expected: Outcome) {
+fn try_parts(score: &mut [u32; 32], parts: u32, expected: Outcome)
+    requires { ⌜ 1 ≤ parts ⌝ }
+{
     let mut room = [0u8; 4096];
     let n = put_parts(&mut room, parts);
     let reading = read_rules(b"\x02\x00\x00\x01\x00\x00");
-    if n <= 4096 {
-        note_told(
-            score,
-            parts as u64,
-            expected,
-            checking_of(reading.rules, &room[..n]),
-        );
-    }
+    let got = checking_of_room(reading.rules, &room, n);
+    note_told(score, parts as u64, expected, got);
 }
 
 fn try_long_document(score: &mut [u32; 32]) {

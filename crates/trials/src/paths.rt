@@ -10,7 +10,7 @@ pub fn parent_of(set: SmallSet, x: usize) -> usize {
 pub fn prefixes(set: SmallSet, x: usize) -> u64 {
     let mut word = 0u64;
     let mut y = x;
-    for _ in 0..8 {
+    for _ in 0..8u32 {
         word |= 1u64 << (y % 64);
         y = parent_of(set, y);
     }

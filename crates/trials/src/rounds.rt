@@ -22,6 +22,14 @@ fn agreeing_labels(a: &[u32; 64], b: &[u32; 64]) -> usize {
     64
 }
 
+fn agreeing_parents(a: &[u8; 64], b: &[u8; 64]) -> usize {
+    agreeing(a, b)
+}
+
+fn agreeing_sides(a: &[u8; 256], b: &[u8; 256]) -> usize {
+    agreeing(a, b)
+}
+
 // At least `count` agree.
 fn note_agreeing(score: &mut [u32; 32], case: u64, count: usize, agreeing: usize) {
     if count <= agreeing {
@@ -40,7 +48,7 @@ fn note_same_paths(score: &mut [u32; 32], case: u64, a: Rules, b: Rules) {
     parent[0] = 0;
     other_parent[0] = 0;
     note(score, ROUNDS, case, a.paths as u64, b.paths as u64);
-    note_agreeing(score, case, a.paths, agreeing(&parent, &other_parent));
+    note_agreeing(score, case, a.paths, agreeing_parents(&parent, &other_parent));
     note_agreeing(score, case, a.paths, agreeing_labels(&label, &other_label));
 }
 
@@ -53,9 +61,9 @@ fn note_same_rules(score: &mut [u32; 32], case: u64, a: Rules, b: Rules) {
     let other_right = b.right;
     note(score, ROUNDS, case, a.required, b.required);
     note(score, ROUNDS, case, a.rules as u64, b.rules as u64);
-    note_agreeing(score, case, a.rules, agreeing(&kind, &other_kind));
-    note_agreeing(score, case, a.rules, agreeing(&left, &other_left));
-    note_agreeing(score, case, a.rules, agreeing(&right, &other_right));
+    note_agreeing(score, case, a.rules, agreeing_sides(&kind, &other_kind));
+    note_agreeing(score, case, a.rules, agreeing_sides(&left, &other_left));
+    note_agreeing(score, case, a.rules, agreeing_sides(&right, &other_right));
 }
 
 // The rules of a file are the given ones.

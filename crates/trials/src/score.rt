@@ -75,13 +75,17 @@ pub fn note(score: &mut [u32; 32], group: usize, case: u64, expected: u64, got: 
     count(score, slot(TOTAL) + 1);
 }
 
+fn wide(n: u32) -> u64 {
+    n as u64
+}
+
 fn print_line(score: &[u32; 32], group: usize) {
     let at = slot(group);
     print_name(group);
     print(b" passed ");
-    print_number(score[at] as u64);
+    print_number(wide(score[at]));
     print(b" failed ");
-    print_number(score[at + 1] as u64);
+    print_number(wide(score[at + 1]));
     print(b"\n");
 }
 

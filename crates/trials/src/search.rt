@@ -5,7 +5,8 @@
 // freely and repeated freely, and nothing else; it obeys exactly if they obey and its own node breaks no rule. Hence, with the
 // families of the child paths known, the sets of the obeying subtrees on c are {c} united with any members of those families,
 // none or several of one family too, less the sets that break a rule whose context is c. Every finite tree is one of these, by
-// its height, and every set of these comes from a finite tree. Child paths have greater numbers, so the last path goes first.
+// its height, and every set of these comes from a finite tree. Child paths have greater numbers, so the last path goes first;
+// what stands in a slot past the paths is never looked at.
 use crate::families::breaking;
 use crate::families::holding_all;
 use crate::families::with_any;
@@ -64,11 +65,9 @@ pub fn families_of(set: SmallSet) -> Families {
     let mut obeying = [0u64; 8];
     for i in 0..8usize {
         let c = 7 - i;
-        if c < set.paths {
-            let all = free_at(set, &obeying, c);
-            free[c] = all;
-            obeying[c] = all & !broken_at(set, c);
-        }
+        let all = free_at(set, &obeying, c);
+        free[c] = all;
+        obeying[c] = all & !broken_at(set, c);
     }
     Families { free, obeying }
 }
@@ -122,9 +121,7 @@ pub fn some_counter(
     let mut partial = [0u64; 8];
     for i in 0..8usize {
         let c = 7 - i;
-        if c < set.paths {
-            partial[c] = countering_at(set, families, &partial, c, top, broken);
-        }
+        partial[c] = countering_at(set, families, &partial, c, top, broken);
     }
     partial[0] != 0
 }

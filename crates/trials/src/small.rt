@@ -33,13 +33,19 @@ pub fn rule_of(set: SmallSet, r: usize) -> SmallRule {
     }
 }
 
-// The first `count` of eight numbers, then the number of an unused slot.
+// What stands in a slot: one of the first `count` of eight numbers, or that of an unused slot.
+fn kept(small: [u8; 8], count: usize, x: usize) -> u8 {
+    if x < count {
+        return small[x % 8];
+    }
+    UNUSED
+}
+
+// The root's parent is unused too.
 fn parents_of(small: [u8; 8], count: usize) -> [u8; 64] {
     let mut all = [UNUSED; 64];
     for x in 1..8usize {
-        if x < count {
-            all[x] = small[x];
-        }
+        all[x] = kept(small, count, x);
     }
     all
 }
@@ -47,31 +53,38 @@ fn parents_of(small: [u8; 8], count: usize) -> [u8; 64] {
 fn sides_of(small: [u8; 8], count: usize) -> [u8; 256] {
     let mut all = [UNUSED; 256];
     for r in 0..8usize {
-        if r < count {
-            all[r] = small[r];
-        }
+        all[r] = kept(small, count, r);
     }
     all
 }
 
 // Labels that differ, of one byte and of two.
+fn label_of(x: usize, count: usize) -> u32 {
+    if x < count {
+        return (x % 8 * 2111 + 27) as u32;
+    }
+    99999
+}
+
 fn labels_of(count: usize) -> [u32; 64] {
     let mut all = [99999u32; 64];
     for x in 0..8usize {
-        if x < count {
-            all[x] = ((x * 2111 + 27) % 16384) as u32;
-        }
+        all[x] = label_of(x, count);
     }
     all
 }
 
 // The table handed to the public calls.
 pub fn rules_of(set: SmallSet) -> Rules {
-    let parent = parents_of(set.parent, set.paths);
+    let small_parent = set.parent;
+    let small_kind = set.kind;
+    let small_left = set.left;
+    let small_right = set.right;
+    let parent = parents_of(small_parent, set.paths);
     let label = labels_of(set.paths);
-    let kind = sides_of(set.kind, set.rules);
-    let left = sides_of(set.left, set.rules);
-    let right = sides_of(set.right, set.rules);
+    let kind = sides_of(small_kind, set.rules);
+    let left = sides_of(small_left, set.rules);
+    let right = sides_of(small_right, set.rules);
     Rules {
         paths: set.paths,
         parent,
@@ -93,13 +106,16 @@ pub fn without_required(set: SmallSet) -> SmallSet {
 // The same paths with one rule only.
 pub fn with_one_rule(set: SmallSet, kind: usize, left: usize, right: usize) -> SmallSet {
     let parent = set.parent;
+    let kinds = [(kind % 256) as u8; 8];
+    let lefts = [(left % 256) as u8; 8];
+    let rights = [(right % 256) as u8; 8];
     SmallSet {
         paths: set.paths,
         parent,
         required: 0,
         rules: 1,
-        kind: [(kind % 256) as u8; 8],
-        left: [(left % 256) as u8; 8],
-        right: [(right % 256) as u8; 8],
+        kind: kinds,
+        left: lefts,
+        right: rights,
     }
 }

@@ -22,15 +22,20 @@ fn chain() -> [u8; 64] {
 
 // A chain of three paths with two rules.
 fn whole() -> Rules {
+    let parent = chain();
+    let label = [7u32; 64];
+    let kind = [1u8; 256];
+    let left = [2u8; 256];
+    let right = [1u8; 256];
     Rules {
         paths: 3,
-        parent: chain(),
-        label: [7u32; 64],
+        parent,
+        label,
         required: 2,
         rules: 2,
-        kind: [1u8; 256],
-        left: [2u8; 256],
-        right: [1u8; 256],
+        kind,
+        left,
+        right,
     }
 }
 
