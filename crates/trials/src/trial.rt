@@ -99,19 +99,37 @@ fn try_question(
     ask_again(score, case, rules, call, got, &room);
 }
 
-// Every question of every kind.
-fn try_questions(score: &mut [u32; 32], case: u64, set: SmallSet, families: Families) {
-    let rules = rules_of(set);
-    for i in 0..192usize {
-        let kind = (1 + i / 64) as u8;
-        let p = i / 8 % 8;
-        let q = i % 8;
-        if p < set.paths {
-            if q < set.paths {
-                let countered = some_counter(set, families, kind, p, q);
-                try_question(score, case + i as u64, set, rules, kind, p, q, countered);
-            }
+// Question i of 192: three kinds, eight left and eight right paths; those of paths that the set lacks are left out.
+fn try_numbered(
+    score: &mut [u32; 32],
+    case: u64,
+    set: SmallSet,
+    rules: Rules,
+    families: Families,
+    i: usize,
+) {
+    let kind = (1 + i / 64 % 3) as u8;
+    let p = i / 8 % 8;
+    let q = i % 8;
+    let number = case % 1000000000 + (i % 1000) as u64;
+    if p < set.paths {
+        if q < set.paths {
+            let countered = some_counter(set, families, kind, p, q);
+            try_question(score, number, set, rules, kind, p, q, countered);
         }
+    }
+}
+
+// Every question of every kind.
+fn try_questions(
+    score: &mut [u32; 32],
+    case: u64,
+    set: SmallSet,
+    rules: Rules,
+    families: Families,
+) {
+    for i in 0..192usize {
+        try_numbered(score, case, set, rules, families, i);
     }
 }
 
@@ -122,7 +140,7 @@ fn try_set(score: &mut [u32; 32], number: u64) {
     let families = families_of(set);
     there_and_back(score, case, rules);
     try_verdict(score, case, set, rules, some_document(set, families));
-    try_questions(score, case, set, families);
+    try_questions(score, case, set, rules, families);
 }
 
 pub fn try_sets(score: &mut [u32; 32]) {

@@ -4,60 +4,52 @@ use Rattle.trials.proofs.search.families_of.Reads as reads
 use Rattle.trials.proofs.search.families_of.Lts as lts
 use Rattle.trials.proofs.search.broken_at.Reads as broken-at-reads
 use Rattle.trials.proofs.search.free_at.Reads as free-at-reads
+use borrow.Author.Needs.{needs}
+use Prim.Native.Nat.{_-_}
+use mathlib.Core.Path.{_≡_}
+use lib.ListN.{length}
 
 abbrev Inv-loop : tie.InvT-loop
-Inv-loop set free₀ obeying₀ i₀ free obeying i = ?
+Inv-loop set free₀ obeying₀ i₀ free obeying i = (8 ≡ length free) × (8 ≡ length obeying)
 
 abbrev μ-loop : tie.MeasureT-loop
-μ-loop set free₀ obeying₀ i₀ free obeying i = ?
+μ-loop set free₀ obeying₀ i₀ free obeying i = 8 - i
 
--- src/search.rt:66:5
 loop-holds : tie.Need-loop-holds Inv-loop μ-loop
-loop-holds c = ?
+loop-holds c = search needs
 
--- src/search.rt:67:17
 sub-c : tie.Need-sub-c Inv-loop μ-loop
-sub-c c = ?
+sub-c c = search needs
 
--- src/search.rt:68:13
 free-at-requires : tie.Need-free-at-requires Inv-loop μ-loop
-free-at-requires c κs = ?
+free-at-requires c κs = search needs
 
--- src/search.rt:69:9
 mul-free : tie.Need-mul-free Inv-loop μ-loop
-mul-free c = ?
+mul-free c = search needs
 
--- src/search.rt:69:9
 array-write-free : tie.Need-array-write-free Inv-loop μ-loop
-array-write-free c = ?
+array-write-free c = search needs
 
--- src/search.rt:70:29
 broken-at-requires : tie.Need-broken-at-requires Inv-loop μ-loop
-broken-at-requires c κs = ?
+broken-at-requires c κs = search needs
 
--- src/search.rt:70:9
 mul-obeying : tie.Need-mul-obeying Inv-loop μ-loop
-mul-obeying c = ?
+mul-obeying c = search needs
 
--- src/search.rt:70:9
 array-write-obeying : tie.Need-array-write-obeying Inv-loop μ-loop
-array-write-obeying c = ?
+array-write-obeying c = search needs
 
--- src/search.rt:66:9
 add-i : tie.Need-add-i Inv-loop μ-loop
-add-i c = ?
+add-i c = search needs
 
--- src/search.rt:66:5
 loop-less : tie.Need-loop-less Inv-loop μ-loop
-loop-less c = ?
+loop-less c = search needs
 
--- src/search.rt:66:5
 loop-again : tie.Need-loop-again Inv-loop μ-loop
-loop-again c = ?
+loop-again c = search needs
 
--- src/search.rt:63:1
 returns : tie.Need-returns Inv-loop μ-loop
-returns c = ?
+returns c = search needs
 
 pub families-of-spec : {M : Type 1} → statement M
 families-of-spec =
