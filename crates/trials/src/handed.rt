@@ -1,7 +1,6 @@
-// Documents handed back, checked against the rules and against the question.
+// Documents handed back, checked by the document checker.
 use crate::small::SmallSet;
 use crate::small::rules_of;
-use crate::small::with_one_rule;
 use crate::small::without_required;
 use documents::check::Checked;
 use documents::check::check_document;
@@ -25,18 +24,7 @@ pub fn judged(rules: Rules, document: &[u8]) -> u64 {
     kind_of(check_document(rules, document))
 }
 
-// A counter-document by the rules alone.
+// Whether a document obeys the rules of a set; required paths have no part in it.
 pub fn by_rules(set: SmallSet, document: &[u8]) -> u64 {
     judged(rules_of(without_required(set)), document)
-}
-
-// A counter-document by the question alone.
-pub fn by_question(
-    set: SmallSet,
-    kind: usize,
-    left: usize,
-    right: usize,
-    document: &[u8],
-) -> u64 {
-    judged(rules_of(with_one_rule(set, kind, left, right)), document)
 }

@@ -4,6 +4,7 @@ mod calls;
 mod examples;
 mod families;
 mod handed;
+mod judge;
 mod limits;
 mod marks;
 mod paths;

@@ -83,6 +83,9 @@ fn try_parts(score: &mut [u32; 32]) {
     try_document(score, 17, b"\x02\x00\x00\x01\x00", refused(17, 3));
     try_document(score, 18, b"\x02\x00\x01\x01\x00\x00", refused(18, 4));
     try_document(score, 18, b"\x02\x00\x01\x01\x02\x00", refused(18, 4));
+}
+
+fn try_children(score: &mut [u32; 32]) {
     try_document(score, 19, b"\x02\x00\x01\x00\x01\x00", refused(19, 3));
     try_document(score, 19, b"\x02\x00\x01\x02\x01\x00", refused(19, 3));
     try_document(score, 19, b"\x02\x00\x02\x01\x01\x01\x00", refused(19, 4));
@@ -125,5 +128,6 @@ pub fn try_refusals(score: &mut [u32; 32]) {
     try_paths(score);
     try_rules(score);
     try_parts(score);
+    try_children(score);
     try_judged(score);
 }

@@ -16,7 +16,7 @@ const WRONG: usize = 1000000;
 const MISSING: usize = 99999;
 
 // The number at a place.
-fn number(s: &[u8], at: usize) -> usize {
+pub fn number(s: &[u8], at: usize) -> usize {
     if s.len() <= at {
         return MISSING;
     }
@@ -31,7 +31,7 @@ fn number(s: &[u8], at: usize) -> usize {
     low % 128 + wide(s[next]) * 128
 }
 
-fn after(s: &[u8], at: usize) -> usize {
+pub fn after(s: &[u8], at: usize) -> usize {
     if s.len() <= at {
         return WRONG;
     }

@@ -25,7 +25,7 @@ pub struct Families {
 }
 
 // The sets that break a rule whose context is c.
-fn broken_at(set: SmallSet, c: usize) -> u64 {
+pub fn broken_at(set: SmallSet, c: usize) -> u64 {
     let top = prefixes(set, c);
     let mut all = 0u64;
     for r in 0..8usize {

@@ -9,9 +9,10 @@ use crate::calls::ask_again;
 use crate::calls::run;
 use crate::handed::BROKEN;
 use crate::handed::OBEYS;
-use crate::handed::by_question;
 use crate::handed::by_rules;
 use crate::handed::judged;
+use crate::judge::broken_parts;
+use crate::judge::lacking;
 use crate::marks::mark;
 use crate::random::random_set;
 use crate::replay::replay_inconsistent;
@@ -28,6 +29,7 @@ use crate::search::some_counter;
 use crate::search::some_document;
 use crate::small::SmallSet;
 use crate::small::rules_of;
+use crate::small::with_one_rule;
 use files::rules::Rules;
 
 const SETS: u64 = 2400;
@@ -36,6 +38,8 @@ const SETS: u64 = 2400;
 fn try_handed(score: &mut [u32; 32], case: u64, set: SmallSet, rules: Rules, sound: bool, s: &[u8]) {
     if sound {
         note(score, DOCUMENTS, case, OBEYS, judged(rules, s));
+        note(score, DOCUMENTS, case, 0, broken_parts(set, s));
+        note(score, DOCUMENTS, case, 0, lacking(set, s));
         return;
     }
     let end = replay_inconsistent(set, s);
@@ -55,6 +59,21 @@ fn try_verdict(score: &mut [u32; 32], case: u64, set: SmallSet, rules: Rules, so
     ask_again(score, case, rules, Call::Decide, got, &room);
 }
 
+// A counter-document obeys the rules and breaks the question, which is a set of one rule.
+fn try_counter(
+    score: &mut [u32; 32],
+    case: u64,
+    set: SmallSet,
+    question: SmallSet,
+    s: &[u8],
+) {
+    note(score, DOCUMENTS, case, OBEYS, by_rules(set, s));
+    note(score, DOCUMENTS, case, BROKEN, by_rules(question, s));
+    note(score, DOCUMENTS, case, 0, broken_parts(set, s));
+    let broken = if broken_parts(question, s) == 0 { OBEYS } else { BROKEN };
+    note(score, DOCUMENTS, case, BROKEN, broken);
+}
+
 // The counter-document or the evidence of a question's answer.
 fn try_reply(
     score: &mut [u32; 32],
@@ -67,9 +86,8 @@ fn try_reply(
     s: &[u8],
 ) {
     if countered {
-        note(score, DOCUMENTS, case, OBEYS, by_rules(set, s));
-        let broken = by_question(set, kind as usize, p, q, s);
-        note(score, DOCUMENTS, case, BROKEN, broken);
+        let question = with_one_rule(set, kind as usize, p, q);
+        try_counter(score, case, set, question, s);
         return;
     }
     let end = replay_yes(set, s, kind, p, q);
