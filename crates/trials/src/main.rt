@@ -5,6 +5,7 @@ mod examples;
 mod families;
 mod handed;
 mod judge;
+mod least;
 mod limits;
 mod marks;
 mod paths;
@@ -16,6 +17,7 @@ mod score;
 mod search;
 mod small;
 mod spoilt;
+mod steps;
 mod trial;
 
 use score::print_score;

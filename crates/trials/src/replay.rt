@@ -1,19 +1,28 @@
-// Evidence replayed from its bytes: each step is checked by its code, each form by what 01 says of it.
+// Evidence replayed from its bytes: each step is checked by its code, each form and each choice by what 01 says of it.
 //
 // Every reader here takes a place and answers the place after what it read, or WRONG; from WRONG on nothing can be read.
-use crate::families::has;
+use crate::least::ALIVE;
+use crate::least::distance;
+use crate::least::layers;
+use crate::least::least_code;
+use crate::least::least_conflict;
+use crate::least::least_pair;
+use crate::least::lowest_dead;
+use crate::least::lowest_to;
+use crate::least::reaches;
 use crate::paths::common;
-use crate::paths::parent_of;
 use crate::paths::prefixes;
 use crate::paths::within;
 use crate::small::SmallSet;
 use crate::small::rule_of;
+use crate::steps::MISSING;
+use crate::steps::context_of_rule;
+use crate::steps::inside;
+use crate::steps::is_absence;
+use crate::steps::step;
 use files::number::wide;
 
 const WRONG: usize = 1000000;
-
-// No path, no rule and no form has this number.
-const MISSING: usize = 99999;
 
 // The number at a place.
 pub fn number(s: &[u8], at: usize) -> usize {
@@ -53,84 +62,58 @@ fn expect(s: &[u8], at: usize, n: usize) -> usize {
     WRONG
 }
 
-// The path to which rule r leads from x, by its direction.
-fn along(set: SmallSet, r: usize, x: usize) -> usize {
-    let rule = rule_of(set, r);
-    if rule.kind == 2 {
+// The path after the step from x that is written at a place, the least into a word; never outside the subtree.
+fn take_step(set: SmallSet, s: &[u8], at: usize, top: u64, word: u64, x: usize) -> usize {
+    let code = number(s, at);
+    if code != least_code(set, word, x) {
         return MISSING;
     }
-    if rule.left == x {
-        return rule.right;
+    let y = step(set, code, x);
+    if inside(set, top, y) {
+        return y;
     }
     MISSING
 }
 
-fn against(set: SmallSet, r: usize, x: usize) -> usize {
-    let rule = rule_of(set, r);
-    if rule.kind == 3 {
-        if rule.right == x {
-            return rule.left;
-        }
-    }
-    MISSING
+// The paths that are nearer to the end than where step i of so many starts.
+fn slot(near: &[u64; 8], count: usize, i: usize) -> u64 {
+    near[(count % 8 + 7 - i % 8) % 8]
 }
 
-// The path to which a step leads from x.
-fn step(set: SmallSet, code: usize, x: usize) -> usize {
-    if code == 0 {
-        if x == 0 {
-            return MISSING;
-        }
-        return parent_of(set, x);
-    }
-    let r = (code - 1) / 2;
-    if set.rules <= r {
-        return MISSING;
-    }
-    if code % 2 == 1 {
-        return along(set, r, x);
-    }
-    against(set, r, x)
-}
-
-// A path in the subtree of the context whose prefixes are `top`.
-fn inside(set: SmallSet, top: u64, x: usize) -> bool {
-    if set.paths <= x {
-        return false;
-    }
-    within(top, prefixes(set, x))
-}
-
-// A walk from p to q that never leaves the subtree.
-fn walk(set: SmallSet, s: &[u8], start: usize, top: u64, p: usize, q: usize) -> usize {
-    let mut at = after(s, start);
+// The steps of a walk from p to q whose step count was read.
+fn walk_on(
+    set: SmallSet,
+    s: &[u8],
+    start: usize,
+    top: u64,
+    near: &[u64; 8],
+    count: usize,
+    p: usize,
+    q: usize,
+) -> usize {
+    let mut at = start;
     let mut x = p;
-    for _ in 0..number(s, start) {
-        if !inside(set, top, x) {
-            return WRONG;
-        }
-        x = step(set, number(s, at), x);
+    for i in 0..count {
+        x = take_step(set, s, at, top, slot(near, count, i), x);
         at = after(s, at);
     }
-    if x != q {
-        return WRONG;
-    }
-    if inside(set, top, x) {
+    if x == q {
         return at;
     }
     WRONG
 }
 
-fn is_absence(set: SmallSet, r: usize) -> bool {
-    if set.rules <= r {
-        return false;
+// The least walk from p to q inside the subtree.
+fn walk(set: SmallSet, s: &[u8], at: usize, top: u64, p: usize, q: usize) -> usize {
+    let near = layers(set, top, q);
+    let count = number(s, at);
+    if count == MISSING {
+        return WRONG;
     }
-    rule_of(set, r).kind == 2
-}
-
-fn context_of_rule(set: SmallSet, r: usize) -> u64 {
-    let rule = rule_of(set, r);
-    common(set, rule.left, rule.right)
+    if count != distance(&near, p) {
+        return WRONG;
+    }
+    walk_on(set, s, after(s, at), top, &near, count, p, q)
 }
 
 // Walks from p to the rule's left side and from q to its right, inside the rule's context, which `below` is to be below.
@@ -142,7 +125,6 @@ fn two_walks(
     below: u64,
     p: usize,
     q: usize,
-    crossed: bool,
 ) -> usize {
     if !is_absence(set, r) {
         return WRONG;
@@ -152,94 +134,112 @@ fn two_walks(
         return WRONG;
     }
     let rule = rule_of(set, r);
-    if crossed {
-        let middle = walk(set, s, at, top, p, rule.right);
-        return walk(set, s, middle, top, q, rule.left);
-    }
     let middle = walk(set, s, at, top, p, rule.left);
     walk(set, s, middle, top, q, rule.right)
 }
 
-fn dead(set: SmallSet, s: &[u8], at: usize, p: usize) -> usize {
+// Walks from p to the rule's right side and from q to its left.
+fn crossed_walks(
+    set: SmallSet,
+    s: &[u8],
+    at: usize,
+    r: usize,
+    below: u64,
+    p: usize,
+    q: usize,
+) -> usize {
+    if !is_absence(set, r) {
+        return WRONG;
+    }
+    let top = context_of_rule(set, r);
+    if !within(top, below) {
+        return WRONG;
+    }
+    let rule = rule_of(set, r);
+    let middle = walk(set, s, at, top, p, rule.right);
+    walk(set, s, middle, top, q, rule.left)
+}
+
+// Evidence that p is dead, by the least y and rule.
+fn dead(set: SmallSet, s: &[u8], at: usize, deaths: [u8; 8], p: usize) -> usize {
+    let least = wide(deaths[p % 8]);
+    let y = least / 8;
+    let r = least % 8;
     let first = expect(s, expect(s, at, 2), p);
-    let y = number(s, first);
-    let second = after(s, first);
-    let r = number(s, second);
-    let there = walk(set, s, after(s, second), 1, p, y);
-    two_walks(set, s, there, r, prefixes(set, y), y, y, false)
+    let second = expect(s, expect(s, first, y), r);
+    let there = walk(set, s, second, 1, p, y);
+    two_walks(set, s, there, r, prefixes(set, y), y, y)
 }
 
 fn direct(set: SmallSet, s: &[u8], at: usize, p: usize, q: usize) -> usize {
     walk(set, s, expect(s, at, 1), common(set, p, q), p, q)
 }
 
-// A pair at a node whose prefixes are `below`.
-fn pair(set: SmallSet, s: &[u8], at: usize, below: u64, p: usize, q: usize) -> usize {
-    let first = expect(s, expect(s, expect(s, at, 3), p), q);
-    let r = number(s, first);
-    let second = after(s, first);
-    let side = number(s, second);
-    if 1 < side {
-        return WRONG;
+// A pair at a node whose prefixes are `below`, by rule and side.
+fn pair(set: SmallSet, s: &[u8], below: u64, r: usize, side: usize, p: usize, q: usize) -> usize {
+    let first = expect(s, expect(s, expect(s, 0, 3), p), q);
+    let second = expect(s, expect(s, first, r), side);
+    if side == 0 {
+        return two_walks(set, s, second, r, below, p, q);
     }
-    two_walks(set, s, after(s, second), r, below, p, q, side == 1)
+    crossed_walks(set, s, second, r, below, p, q)
 }
 
-fn implication(set: SmallSet, s: &[u8], at: usize, p: usize, q: usize) -> usize {
-    if number(s, at) == 1 {
+// Direct if there is a walk, else dead for p.
+fn implication(
+    set: SmallSet,
+    s: &[u8],
+    at: usize,
+    deaths: [u8; 8],
+    p: usize,
+    q: usize,
+) -> usize {
+    if reaches(set, common(set, p, q), p, q) {
         return direct(set, s, at, p, q);
     }
-    dead(set, s, at, p)
+    dead(set, s, at, deaths, p)
 }
 
-fn absence(set: SmallSet, s: &[u8], p: usize, q: usize) -> usize {
-    if number(s, 0) == 3 {
-        return pair(set, s, 0, common(set, p, q), p, q);
+// Dead for p, else dead for q, else the pair with the least rule.
+fn absence(set: SmallSet, s: &[u8], deaths: [u8; 8], p: usize, q: usize) -> usize {
+    if deaths[p % 8] != ALIVE {
+        return dead(set, s, 0, deaths, p);
     }
-    if number(s, 1) == p {
-        return dead(set, s, 0, p);
+    if deaths[q % 8] != ALIVE {
+        return dead(set, s, 0, deaths, q);
     }
-    dead(set, s, 0, q)
+    let below = common(set, p, q);
+    let least = least_pair(set, below, p, q);
+    pair(set, s, below, least / 2, least % 2, p, q)
 }
 
 // The place after the evidence of a yes.
-pub fn replay_yes(set: SmallSet, s: &[u8], kind: u8, p: usize, q: usize) -> usize {
+pub fn replay_yes(
+    set: SmallSet,
+    s: &[u8],
+    deaths: [u8; 8],
+    kind: u8,
+    p: usize,
+    q: usize,
+) -> usize {
     if kind == 2 {
-        return absence(set, s, p, q);
+        return absence(set, s, deaths, p, q);
     }
-    let there = implication(set, s, 0, p, q);
+    let there = implication(set, s, 0, deaths, p, q);
     if kind == 1 {
         return there;
     }
-    implication(set, s, there, q, p)
+    implication(set, s, there, deaths, q, p)
 }
 
-// The root counts as required.
-fn is_required(set: SmallSet, x: usize) -> bool {
-    if x == 0 {
-        return true;
+// The place after the evidence that a set is inconsistent: the least conflict on the root, else the lowest dead required path.
+pub fn replay_inconsistent(set: SmallSet, s: &[u8], deaths: [u8; 8]) -> usize {
+    let r = least_conflict(set);
+    if r == MISSING {
+        return dead(set, s, 0, deaths, lowest_dead(set, deaths));
     }
-    if set.paths <= x {
-        return false;
-    }
-    has(set.required, (x % 64) as u32)
-}
-
-// The place after the evidence that a set is inconsistent.
-pub fn replay_inconsistent(set: SmallSet, s: &[u8]) -> usize {
-    let p = number(s, 1);
-    if !is_required(set, p) {
-        return WRONG;
-    }
-    if number(s, 0) == 2 {
-        return dead(set, s, 0, p);
-    }
-    let q = number(s, 2);
-    if !is_required(set, q) {
-        return WRONG;
-    }
-    if number(s, 4) == 0 {
-        return pair(set, s, 0, 1, p, q);
-    }
-    WRONG
+    let rule = rule_of(set, r);
+    let p = lowest_to(set, rule.left);
+    let q = lowest_to(set, rule.right);
+    pair(set, s, 1, r, 0, p, q)
 }

@@ -13,6 +13,7 @@ use crate::handed::by_rules;
 use crate::handed::judged;
 use crate::judge::broken_parts;
 use crate::judge::lacking;
+use crate::least::deaths_of;
 use crate::marks::mark;
 use crate::random::random_set;
 use crate::replay::replay_inconsistent;
@@ -35,18 +36,33 @@ use files::rules::Rules;
 const SETS: u64 = 2400;
 
 // The document or the evidence of a verdict.
-fn try_handed(score: &mut [u32; 32], case: u64, set: SmallSet, rules: Rules, sound: bool, s: &[u8]) {
+fn try_handed(
+    score: &mut [u32; 32],
+    case: u64,
+    set: SmallSet,
+    rules: Rules,
+    deaths: [u8; 8],
+    sound: bool,
+    s: &[u8],
+) {
     if sound {
         note(score, DOCUMENTS, case, OBEYS, judged(rules, s));
         note(score, DOCUMENTS, case, 0, broken_parts(set, s));
         note(score, DOCUMENTS, case, 0, lacking(set, s));
         return;
     }
-    let end = replay_inconsistent(set, s);
+    let end = replay_inconsistent(set, s, deaths);
     note(score, EVIDENCE, case, s.len() as u64, end as u64);
 }
 
-fn try_verdict(score: &mut [u32; 32], case: u64, set: SmallSet, rules: Rules, sound: bool) {
+fn try_verdict(
+    score: &mut [u32; 32],
+    case: u64,
+    set: SmallSet,
+    rules: Rules,
+    deaths: [u8; 8],
+    sound: bool,
+) {
     let mut room = [0u8; ROOM];
     mark(&mut room);
     let got = run(rules, Call::Decide, &mut room);
@@ -54,7 +70,7 @@ fn try_verdict(score: &mut [u32; 32], case: u64, set: SmallSet, rules: Rules, so
     note(score, VERDICTS, case, expected, got.answer);
     let n = got.length;
     if n <= ROOM {
-        try_handed(score, case, set, rules, sound, &room[..n]);
+        try_handed(score, case, set, rules, deaths, sound, &room[..n]);
     }
     ask_again(score, case, rules, Call::Decide, got, &room);
 }
@@ -79,6 +95,7 @@ fn try_reply(
     score: &mut [u32; 32],
     case: u64,
     set: SmallSet,
+    deaths: [u8; 8],
     kind: u8,
     p: usize,
     q: usize,
@@ -90,7 +107,7 @@ fn try_reply(
         try_counter(score, case, set, question, s);
         return;
     }
-    let end = replay_yes(set, s, kind, p, q);
+    let end = replay_yes(set, s, deaths, kind, p, q);
     note(score, EVIDENCE, case, s.len() as u64, end as u64);
 }
 
@@ -99,6 +116,7 @@ fn try_question(
     case: u64,
     set: SmallSet,
     rules: Rules,
+    deaths: [u8; 8],
     kind: u8,
     p: usize,
     q: usize,
@@ -112,7 +130,7 @@ fn try_question(
     note(score, QUESTIONS, case, expected, got.answer);
     let n = got.length;
     if n <= ROOM {
-        try_reply(score, case, set, kind, p, q, countered, &room[..n]);
+        try_reply(score, case, set, deaths, kind, p, q, countered, &room[..n]);
     }
     ask_again(score, case, rules, call, got, &room);
 }
@@ -123,6 +141,7 @@ fn try_numbered(
     case: u64,
     set: SmallSet,
     rules: Rules,
+    deaths: [u8; 8],
     families: Families,
     i: usize,
 ) {
@@ -133,7 +152,7 @@ fn try_numbered(
     if p < set.paths {
         if q < set.paths {
             let countered = some_counter(set, families, kind, p, q);
-            try_question(score, number, set, rules, kind, p, q, countered);
+            try_question(score, number, set, rules, deaths, kind, p, q, countered);
         }
     }
 }
@@ -144,10 +163,11 @@ fn try_questions(
     case: u64,
     set: SmallSet,
     rules: Rules,
+    deaths: [u8; 8],
     families: Families,
 ) {
     for i in 0..192usize {
-        try_numbered(score, case, set, rules, families, i);
+        try_numbered(score, case, set, rules, deaths, families, i);
     }
 }
 
@@ -156,9 +176,11 @@ fn try_set(score: &mut [u32; 32], number: u64) {
     let rules = rules_of(set);
     let case = number % 1000000 * 1000;
     let families = families_of(set);
+    let deaths = deaths_of(set);
     there_and_back(score, case, rules);
-    try_verdict(score, case, set, rules, some_document(set, families));
-    try_questions(score, case, set, rules, families);
+    let sound = some_document(set, families);
+    try_verdict(score, case, set, rules, deaths, sound);
+    try_questions(score, case, set, rules, deaths, families);
 }
 
 pub fn try_sets(score: &mut [u32; 32]) {

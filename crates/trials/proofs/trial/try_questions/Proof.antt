@@ -7,10 +7,10 @@ use borrow.Author.Needs.{needs}
 use Prim.Native.Nat.{_-_}
 
 abbrev Inv-loop : tie.InvT-loop
-Inv-loop score₀ case set rules families i₀ score i = Unit {0}
+Inv-loop score₀ case set rules deaths families i₀ score i = Unit {0}
 
 abbrev μ-loop : tie.MeasureT-loop
-μ-loop score₀ case set rules families i₀ score i = 192 - i
+μ-loop score₀ case set rules deaths families i₀ score i = 192 - i
 
 loop-holds : tie.Need-loop-holds Inv-loop μ-loop
 loop-holds c = search needs
