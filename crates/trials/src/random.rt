@@ -25,8 +25,17 @@ fn draw(set: u64, place: u64, n: u64) -> u64 {
     word(set, place) % n
 }
 
-fn draw_path(set: u64, place: u64, count: usize) -> u8 {
-    (draw(set, place, count as u64) % 256) as u8
+// A path from `low` on and below `past`, or the root.
+fn draw_path(set: u64, place: u64, low: usize, past: usize) -> u8 {
+    if past <= low {
+        return 0;
+    }
+    (low % 8 + draw(set, place, (past - low) as u64) as usize % 8) as u8
+}
+
+// Every other set is wide, with few rules and none that names the root: there paths exclude each other and are seldom dead.
+fn is_wide(set: u64) -> bool {
+    set % 2 == 1
 }
 
 // One to six paths, mostly three to five.
@@ -41,10 +50,20 @@ fn path_count(set: u64) -> usize {
     }
 }
 
+fn draw_parent(set: u64, x: usize) -> u8 {
+    let place = 16 + (x % 8) as u64;
+    if is_wide(set) {
+        if 2 < x {
+            return draw_path(set, place, 0, 2);
+        }
+    }
+    draw_path(set, place, 0, x)
+}
+
 fn parents(set: u64) -> [u8; 8] {
     let mut all = [0u8; 8];
     for x in 1..8usize {
-        all[x] = draw_path(set, 16 + x as u64, x);
+        all[x] = draw_parent(set, x);
     }
     all
 }
@@ -52,17 +71,31 @@ fn parents(set: u64) -> [u8; 8] {
 fn kinds(set: u64) -> [u8; 8] {
     let mut all = [1u8; 8];
     for r in 0..8usize {
-        all[r] = 1 + draw_path(set, 32 + r as u64, 3) % 3;
+        all[r] = draw_path(set, 32 + r as u64, 1, 4);
     }
     all
+}
+
+fn draw_side(set: u64, place: u64, count: usize) -> u8 {
+    if is_wide(set) {
+        return draw_path(set, place, 1, count);
+    }
+    draw_path(set, place, 0, count)
 }
 
 fn sides(set: u64, place: u64, count: usize) -> [u8; 8] {
     let mut all = [0u8; 8];
     for r in 0..8usize {
-        all[r] = draw_path(set, place % 1024 + r as u64, count);
+        all[r] = draw_side(set, place % 1024 + r as u64, count);
     }
     all
+}
+
+fn rule_count(set: u64) -> usize {
+    if is_wide(set) {
+        return (1 + draw(set, 1, 4) % 4) as usize;
+    }
+    (draw(set, 1, 7) % 7) as usize
 }
 
 // Each path but the root with one chance in four.
@@ -81,7 +114,7 @@ pub fn random_set(set: u64) -> SmallSet {
         paths,
         parent,
         required: required(set, paths),
-        rules: draw(set, 1, 7) as usize,
+        rules: rule_count(set),
         kind,
         left,
         right,

@@ -23,9 +23,6 @@ add-draw-path c = search needs
 draw-path-requires : tie.Need-draw-path-requires Inv-loop μ-loop
 draw-path-requires c κs = search needs
 
-add-all : tie.Need-add-all Inv-loop μ-loop
-add-all c = search needs
-
 array-write-all : tie.Need-array-write-all Inv-loop μ-loop
 array-write-all c = search needs
 
@@ -50,7 +47,6 @@ kinds-spec =
     loop-holds
     add-draw-path
     draw-path-requires
-    add-all
     array-write-all
     add-r
     loop-less

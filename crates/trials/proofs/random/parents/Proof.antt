@@ -2,7 +2,7 @@ use Rattle.trials.proofs.random.parents.Statement.{statement}
 use Rattle.trials.proofs.random.parents.Tie as tie
 use Rattle.trials.proofs.random.parents.Reads as reads
 use Rattle.trials.proofs.random.parents.Lts as lts
-use Rattle.trials.proofs.random.draw_path.Reads as draw-path-reads
+use Rattle.trials.proofs.random.draw_parent.Reads as draw-parent-reads
 use borrow.Author.Needs.{needs}
 use Prim.Native.Nat.{_-_}
 use mathlib.Core.Path.{_≡_}
@@ -17,11 +17,8 @@ abbrev μ-loop : tie.MeasureT-loop
 loop-holds : tie.Need-loop-holds Inv-loop μ-loop
 loop-holds c = search needs
 
-add-draw-path : tie.Need-add-draw-path Inv-loop μ-loop
-add-draw-path c = search needs
-
-draw-path-requires : tie.Need-draw-path-requires Inv-loop μ-loop
-draw-path-requires c κs = search needs
+draw-parent-requires : tie.Need-draw-parent-requires Inv-loop μ-loop
+draw-parent-requires c κs = search needs
 
 array-write-all : tie.Need-array-write-all Inv-loop μ-loop
 array-write-all c = search needs
@@ -45,8 +42,7 @@ parents-spec =
     Inv-loop
     μ-loop
     loop-holds
-    add-draw-path
-    draw-path-requires
+    draw-parent-requires
     array-write-all
     add-x
     loop-less

@@ -2,7 +2,7 @@ use Rattle.trials.proofs.random.sides.Statement.{statement}
 use Rattle.trials.proofs.random.sides.Tie as tie
 use Rattle.trials.proofs.random.sides.Reads as reads
 use Rattle.trials.proofs.random.sides.Lts as lts
-use Rattle.trials.proofs.random.draw_path.Reads as draw-path-reads
+use Rattle.trials.proofs.random.draw_side.Reads as draw-side-reads
 use borrow.Author.Needs.{needs}
 use Prim.Native.Nat.{_-_}
 use mathlib.Core.Path.{_≡_}
@@ -17,11 +17,11 @@ abbrev μ-loop : tie.MeasureT-loop
 loop-holds : tie.Need-loop-holds Inv-loop μ-loop
 loop-holds c = search needs
 
-add-draw-path : tie.Need-add-draw-path Inv-loop μ-loop
-add-draw-path c = search needs
+add-draw-side : tie.Need-add-draw-side Inv-loop μ-loop
+add-draw-side c = search needs
 
-draw-path-requires : tie.Need-draw-path-requires Inv-loop μ-loop
-draw-path-requires c κs = search needs
+draw-side-requires : tie.Need-draw-side-requires Inv-loop μ-loop
+draw-side-requires c κs = search needs
 
 array-write-all : tie.Need-array-write-all Inv-loop μ-loop
 array-write-all c = search needs
@@ -45,8 +45,8 @@ sides-spec =
     Inv-loop
     μ-loop
     loop-holds
-    add-draw-path
-    draw-path-requires
+    add-draw-side
+    draw-side-requires
     array-write-all
     add-r
     loop-less
