@@ -22,10 +22,15 @@ pub enum Call {
 }
 
 pub const WRITTEN: u64 = 1;
+
 pub const CONSISTENT: u64 = 2;
+
 pub const INCONSISTENT: u64 = 3;
+
 pub const YES: u64 = 4;
+
 pub const DENIED: u64 = 5;
+
 pub const REFUSED: u64 = 6;
 
 // What a call answered; the length of its bytes, or the refusal's number; the refusal's place.
@@ -114,7 +119,13 @@ fn ask_exact(
     }
     let got = run(rules, call, &mut room[..n]);
     note(score, BUFFERS, case, told(first), told(got));
-    note(score, BUFFERS, case, n as u64, agreeing_room(bytes, &room) as u64);
+    note(
+        score,
+        BUFFERS,
+        case,
+        n as u64,
+        agreeing_room(bytes, &room) as u64,
+    );
     note(
         score,
         BUFFERS,

@@ -25,20 +25,19 @@ use files::rules::Rules;
 // The document of E1 and E2, as 01 lists it.
 const LISTED: [u8; 18] = [6, 0, 3, 1, 2, 3, 1, 1, 4, 1, 1, 5, 4, 0, 2, 0, 3, 0];
 
-fn try_call(
-    score: &mut [u32; 32],
-    case: u64,
-    rules: Rules,
-    call: Call,
-    answer: u64,
-    bytes: &[u8],
-) {
+fn try_call(score: &mut [u32; 32], case: u64, rules: Rules, call: Call, answer: u64, bytes: &[u8]) {
     let mut room = [0u8; ROOM];
     mark(&mut room);
     let got = run(rules, call, &mut room);
     let n = bytes.len();
     note(score, EXAMPLES, case, told(answered(answer, n)), told(got));
-    note(score, EXAMPLES, case, n as u64, agreeing(bytes, &room) as u64);
+    note(
+        score,
+        EXAMPLES,
+        case,
+        n as u64,
+        agreeing(bytes, &room) as u64,
+    );
     ask_again(score, case, rules, call, got, &room);
 }
 
@@ -110,7 +109,8 @@ fn try_absences(score: &mut [u32; 32]) {
 
 fn try_verdicts(score: &mut [u32; 32]) {
     let listed = LISTED;
-    let e2 = b"\x05\x0a\x00\x0b\x01\x0c\x01\x0d\x00\x0e\x01\x02\x03\x01\x02\x04\x01\x04\x03\x02\x02\x03";
+    let e2 =
+        b"\x05\x0a\x00\x0b\x01\x0c\x01\x0d\x00\x0e\x01\x02\x03\x01\x02\x04\x01\x04\x03\x02\x02\x03";
     try_example(score, 2, e2, Call::Decide, CONSISTENT, &listed);
     let e5 = b"\x05\x0a\x00\x0b\x01\x0c\x01\x0d\x00\x0e\x02\x02\x04\x01\x02\x02\x04";
     let pair = b"\x03\x02\x04\x00\x00\x00\x00";

@@ -7,8 +7,11 @@ use documents::check::check_document;
 use files::rules::Rules;
 
 pub const OBEYS: u64 = 1;
+
 pub const BROKEN: u64 = 2;
+
 const MISSING: u64 = 3;
+
 const REFUSED: u64 = 4;
 
 fn kind_of(c: Checked) -> u64 {

@@ -22,6 +22,7 @@ fn try_file(score: &mut [u32; 32], case: u64, file: &[u8], number: u8, place: us
 }
 
 const BROKEN: u64 = 7;
+
 const MISSING: u64 = 8;
 
 // What checking a document answers: the broken rule and the part, or the missing path.

@@ -116,13 +116,15 @@ fn walk(set: SmallSet, s: &[u8], at: usize, top: u64, p: usize, q: usize) -> usi
     walk_on(set, s, after(s, at), top, &near, count, p, q)
 }
 
-// Walks from p to the rule's left side and from q to its right, inside the rule's context, which `below` is to be below.
+// Walks from p to the rule's left side and from q to its right, or crossed, inside the rule's context, which `below` is to be
+// below.
 fn two_walks(
     set: SmallSet,
     s: &[u8],
     at: usize,
-    r: usize,
     below: u64,
+    r: usize,
+    crossed: bool,
     p: usize,
     q: usize,
 ) -> usize {
@@ -134,30 +136,12 @@ fn two_walks(
         return WRONG;
     }
     let rule = rule_of(set, r);
+    if crossed {
+        let middle = walk(set, s, at, top, p, rule.right);
+        return walk(set, s, middle, top, q, rule.left);
+    }
     let middle = walk(set, s, at, top, p, rule.left);
     walk(set, s, middle, top, q, rule.right)
-}
-
-// Walks from p to the rule's right side and from q to its left.
-fn crossed_walks(
-    set: SmallSet,
-    s: &[u8],
-    at: usize,
-    r: usize,
-    below: u64,
-    p: usize,
-    q: usize,
-) -> usize {
-    if !is_absence(set, r) {
-        return WRONG;
-    }
-    let top = context_of_rule(set, r);
-    if !within(top, below) {
-        return WRONG;
-    }
-    let rule = rule_of(set, r);
-    let middle = walk(set, s, at, top, p, rule.right);
-    walk(set, s, middle, top, q, rule.left)
 }
 
 // Evidence that p is dead, by the least y and rule.
@@ -168,7 +152,7 @@ fn dead(set: SmallSet, s: &[u8], at: usize, deaths: [u8; 8], p: usize) -> usize 
     let first = expect(s, expect(s, at, 2), p);
     let second = expect(s, expect(s, first, y), r);
     let there = walk(set, s, second, 1, p, y);
-    two_walks(set, s, there, r, prefixes(set, y), y, y)
+    two_walks(set, s, there, prefixes(set, y), r, false, y, y)
 }
 
 fn direct(set: SmallSet, s: &[u8], at: usize, p: usize, q: usize) -> usize {
@@ -179,21 +163,11 @@ fn direct(set: SmallSet, s: &[u8], at: usize, p: usize, q: usize) -> usize {
 fn pair(set: SmallSet, s: &[u8], below: u64, r: usize, side: usize, p: usize, q: usize) -> usize {
     let first = expect(s, expect(s, expect(s, 0, 3), p), q);
     let second = expect(s, expect(s, first, r), side);
-    if side == 0 {
-        return two_walks(set, s, second, r, below, p, q);
-    }
-    crossed_walks(set, s, second, r, below, p, q)
+    two_walks(set, s, second, below, r, side == 1, p, q)
 }
 
 // Direct if there is a walk, else dead for p.
-fn implication(
-    set: SmallSet,
-    s: &[u8],
-    at: usize,
-    deaths: [u8; 8],
-    p: usize,
-    q: usize,
-) -> usize {
+fn implication(set: SmallSet, s: &[u8], at: usize, deaths: [u8; 8], p: usize, q: usize) -> usize {
     if reaches(set, common(set, p, q), p, q) {
         return direct(set, s, at, p, q);
     }
@@ -214,14 +188,7 @@ fn absence(set: SmallSet, s: &[u8], deaths: [u8; 8], p: usize, q: usize) -> usiz
 }
 
 // The place after the evidence of a yes.
-pub fn replay_yes(
-    set: SmallSet,
-    s: &[u8],
-    deaths: [u8; 8],
-    kind: u8,
-    p: usize,
-    q: usize,
-) -> usize {
+pub fn replay_yes(set: SmallSet, s: &[u8], deaths: [u8; 8], kind: u8, p: usize, q: usize) -> usize {
     if kind == 2 {
         return absence(set, s, deaths, p, q);
     }

@@ -48,7 +48,12 @@ fn note_same_paths(score: &mut [u32; 32], case: u64, a: Rules, b: Rules) {
     parent[0] = 0;
     other_parent[0] = 0;
     note(score, ROUNDS, case, a.paths as u64, b.paths as u64);
-    note_agreeing(score, case, a.paths, agreeing_parents(&parent, &other_parent));
+    note_agreeing(
+        score,
+        case,
+        a.paths,
+        agreeing_parents(&parent, &other_parent),
+    );
     note_agreeing(score, case, a.paths, agreeing_labels(&label, &other_label));
 }
 

@@ -3,14 +3,23 @@ ghost use Prim.Native.Nat.{_<_};
 use libc::STDOUT_FILENO;
 
 pub const EXAMPLES: usize = 0;
+
 pub const LIMITS: usize = 1;
+
 pub const REFUSALS: usize = 2;
+
 pub const ROUNDS: usize = 3;
+
 pub const BUFFERS: usize = 4;
+
 pub const VERDICTS: usize = 5;
+
 pub const QUESTIONS: usize = 6;
+
 pub const DOCUMENTS: usize = 7;
+
 pub const EVIDENCE: usize = 8;
+
 const TOTAL: usize = 15;
 
 fn print(text: &[u8]) {

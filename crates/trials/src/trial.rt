@@ -76,17 +76,15 @@ fn try_verdict(
 }
 
 // A counter-document obeys the rules and breaks the question, which is a set of one rule.
-fn try_counter(
-    score: &mut [u32; 32],
-    case: u64,
-    set: SmallSet,
-    question: SmallSet,
-    s: &[u8],
-) {
+fn try_counter(score: &mut [u32; 32], case: u64, set: SmallSet, question: SmallSet, s: &[u8]) {
     note(score, DOCUMENTS, case, OBEYS, by_rules(set, s));
     note(score, DOCUMENTS, case, BROKEN, by_rules(question, s));
     note(score, DOCUMENTS, case, 0, broken_parts(set, s));
-    let broken = if broken_parts(question, s) == 0 { OBEYS } else { BROKEN };
+    let broken = if broken_parts(question, s) == 0 {
+        OBEYS
+    } else {
+        BROKEN
+    };
     note(score, DOCUMENTS, case, BROKEN, broken);
 }
 
@@ -135,6 +133,14 @@ fn try_question(
     ask_again(score, case, rules, call, got, &room);
 }
 
+// The rule file of a set, with buffers of other lengths too.
+fn try_written(score: &mut [u32; 32], case: u64, rules: Rules) {
+    let mut room = [0u8; ROOM];
+    mark(&mut room);
+    let got = run(rules, Call::Write, &mut room);
+    ask_again(score, case, rules, Call::Write, got, &room);
+}
+
 // Question i of 192: three kinds, eight left and eight right paths; those of paths that the set lacks are left out.
 fn try_numbered(
     score: &mut [u32; 32],
@@ -178,6 +184,7 @@ fn try_set(score: &mut [u32; 32], number: u64) {
     let families = families_of(set);
     let deaths = deaths_of(set);
     there_and_back(score, case, rules);
+    try_written(score, case, rules);
     let sound = some_document(set, families);
     try_verdict(score, case, set, rules, deaths, sound);
     try_questions(score, case, set, rules, deaths, families);

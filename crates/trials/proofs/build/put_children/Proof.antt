@@ -5,9 +5,11 @@ use Rattle.trials.proofs.build.put_children.Lts as lts
 use Rattle.trials.proofs.build.put.Reads as put-reads
 use borrow.Author.Needs.{needs}
 use Prim.Native.Nat.{_-_}
+use mathlib.Core.Path.{_≡_}
+use lib.ListN.{length}
 
 abbrev Inv-loop : tie.InvT-loop
-Inv-loop out₀ from parts at₀ n₀ out at n = Unit {0}
+Inv-loop out₀ from parts at₀ n₀ out at n = length out ≡ length out₀
 
 abbrev μ-loop : tie.MeasureT-loop
 μ-loop out₀ from parts at₀ n₀ out at n = parts - n
@@ -33,6 +35,9 @@ loop-less c = search needs
 loop-again : tie.Need-loop-again Inv-loop μ-loop
 loop-again c = search needs
 
+same-length : tie.Need-same-length Inv-loop μ-loop
+same-length c = search needs
+
 returns : tie.Need-returns Inv-loop μ-loop
 returns c = search needs
 
@@ -49,4 +54,5 @@ put-children-spec =
     add-n
     loop-less
     loop-again
+    same-length
     returns)

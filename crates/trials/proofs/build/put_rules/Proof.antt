@@ -5,9 +5,11 @@ use Rattle.trials.proofs.build.put_rules.Lts as lts
 use Rattle.trials.proofs.build.put.Reads as put-reads
 use borrow.Author.Needs.{needs}
 use Prim.Native.Nat.{_-_}
+use mathlib.Core.Path.{_≡_}
+use lib.ListN.{length}
 
 abbrev Inv-loop : tie.InvT-loop
-Inv-loop out₀ from count at₀ r₀ out at r = Unit {0}
+Inv-loop out₀ from count at₀ r₀ out at r = length out ≡ length out₀
 
 abbrev μ-loop : tie.MeasureT-loop
 μ-loop out₀ from count at₀ r₀ out at r = count - r
@@ -42,6 +44,9 @@ loop-less c = search needs
 loop-again : tie.Need-loop-again Inv-loop μ-loop
 loop-again c = search needs
 
+same-length : tie.Need-same-length Inv-loop μ-loop
+same-length c = search needs
+
 returns : tie.Need-returns Inv-loop μ-loop
 returns c = search needs
 
@@ -61,4 +66,5 @@ put-rules-spec =
     add-r
     loop-less
     loop-again
+    same-length
     returns)
