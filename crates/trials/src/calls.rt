@@ -140,6 +140,7 @@ fn ask_short(score: &mut [u32; 32], case: u64, rules: Rules, call: Call, length:
     let mut room = [0u8; ROOM];
     mark(&mut room);
     if length < 1 {
+        note(score, BUFFERS, case, 1, 0);
         return;
     }
     let n = length - 1;
@@ -177,5 +178,7 @@ pub fn ask_again(
     if n <= room.len() {
         ask_exact(score, case, rules, call, first, &room[..n]);
         ask_short(score, case, rules, call, n);
+        return;
     }
+    note(score, BUFFERS, case, room.len() as u64, n as u64);
 }

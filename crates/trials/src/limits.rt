@@ -35,7 +35,9 @@ fn try_witness(score: &mut [u32; 32], case: u64, rules: Rules) {
     note(score, LIMITS, case, CONSISTENT, got.answer);
     if n <= 65536 {
         note(score, LIMITS, case, OBEYS, judged(rules, &room[..n]));
+        return;
     }
+    note(score, LIMITS, case, 65536, n as u64);
 }
 
 fn try_accepted(score: &mut [u32; 32], case: u64, file: &[u8]) {

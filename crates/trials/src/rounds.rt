@@ -102,7 +102,9 @@ pub fn there_and_back(score: &mut [u32; 32], case: u64, rules: Rules) {
     if n <= 4096 {
         read_back(score, case, rules, &room[..n]);
         read_and_write(score, case, &room[..n]);
+        return;
     }
+    note(score, ROUNDS, case, 4096, n as u64);
 }
 
 // A file read and written is the same.

@@ -33,7 +33,7 @@ use crate::small::rules_of;
 use crate::small::with_one_rule;
 use files::rules::Rules;
 
-const SETS: u64 = 2400;
+const SETS: u64 = 6000;
 
 // The document or the evidence of a verdict.
 fn try_handed(

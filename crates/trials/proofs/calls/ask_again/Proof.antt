@@ -28,6 +28,9 @@ ask-short-requires c κs = search needs
 returns : tie.Need-returns
 returns c = search needs
 
+note-requires-2 : tie.Need-note-requires-2
+note-requires-2 c κs = search needs
+
 returns-2 : tie.Need-returns-2
 returns-2 c = search needs
 
@@ -41,4 +44,5 @@ ask-again-spec =
     ask-exact-requires
     ask-short-requires
     returns
+    note-requires-2
     returns-2)

@@ -18,6 +18,9 @@ slice-aggregate-mark c = search needs
 mark-requires : tie.Need-mark-requires
 mark-requires c κs = search needs
 
+note-requires : tie.Need-note-requires
+note-requires c κs = search needs
+
 returns : tie.Need-returns
 returns c = search needs
 
@@ -42,14 +45,14 @@ told-requires c κs = search needs
 told-requires-2 : tie.Need-told-requires-2
 told-requires-2 c κs = search needs
 
-note-requires : tie.Need-note-requires
-note-requires c κs = search needs
+note-requires-2 : tie.Need-note-requires-2
+note-requires-2 c κs = search needs
 
 unmarked-room-requires : tie.Need-unmarked-room-requires
 unmarked-room-requires c κs = search needs
 
-note-requires-2 : tie.Need-note-requires-2
-note-requires-2 c κs = search needs
+note-requires-3 : tie.Need-note-requires-3
+note-requires-3 c κs = search needs
 
 returns-3 : tie.Need-returns-3
 returns-3 c = search needs
@@ -60,6 +63,7 @@ ask-short-spec =
     (tie.spec
     slice-aggregate-mark
     mark-requires
+    note-requires
     returns
     returns-2
     array-borrow-prefix-room
@@ -68,7 +72,7 @@ ask-short-spec =
     refused-requires
     told-requires
     told-requires-2
-    note-requires
-    unmarked-room-requires
     note-requires-2
+    unmarked-room-requires
+    note-requires-3
     returns-3)

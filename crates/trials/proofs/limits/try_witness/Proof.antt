@@ -37,6 +37,9 @@ note-requires-2 c κs = search needs
 returns : tie.Need-returns
 returns c = search needs
 
+note-requires-3 : tie.Need-note-requires-3
+note-requires-3 c κs = search needs
+
 returns-2 : tie.Need-returns-2
 returns-2 c = search needs
 
@@ -53,4 +56,5 @@ try-witness-spec =
     judged-requires
     note-requires-2
     returns
+    note-requires-3
     returns-2)

@@ -48,6 +48,9 @@ read-and-write-requires c κs = search needs
 returns : tie.Need-returns
 returns c = search needs
 
+note-requires-2 : tie.Need-note-requires-2
+note-requires-2 c κs = search needs
+
 returns-2 : tie.Need-returns-2
 returns-2 c = search needs
 
@@ -67,4 +70,5 @@ there-and-back-spec =
     slice-aggregate-read-and-write
     read-and-write-requires
     returns
+    note-requires-2
     returns-2)

@@ -10,7 +10,7 @@ abbrev Inv-loop : tie.InvT-loop
 Inv-loop score₀ number₀ score number = Unit {0}
 
 abbrev μ-loop : tie.MeasureT-loop
-μ-loop score₀ number₀ score number = 2400 - number
+μ-loop score₀ number₀ score number = 6000 - number
 
 loop-holds : tie.Need-loop-holds Inv-loop μ-loop
 loop-holds c = search needs
