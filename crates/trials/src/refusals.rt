@@ -1,9 +1,10 @@
-// Every refusal of 01 with its place, in files and documents of a few bytes.
+// The refusals of files and documents of a few bytes, each with its place; the others are among the limits.
 use crate::calls::Outcome;
 use crate::calls::answered;
 use crate::calls::refused;
 use crate::calls::told;
 use crate::examples::reading_of;
+use crate::rounds::write_back;
 use crate::score::REFUSALS;
 use crate::score::note;
 use documents::check::Checked;
@@ -11,6 +12,7 @@ use documents::check::check_document;
 use files::read::read_rules;
 use files::rules::Rules;
 
+// A refused file hands back the one-path table.
 fn try_file(score: &mut [u32; 32], case: u64, file: &[u8], number: u8, place: usize) {
     note(
         score,
@@ -19,6 +21,8 @@ fn try_file(score: &mut [u32; 32], case: u64, file: &[u8], number: u8, place: us
         told(refused(number, place)),
         told(reading_of(file)),
     );
+    let reading = read_rules(file);
+    write_back(score, case, reading.rules, b"\x01\x00\x00\x00");
 }
 
 const BROKEN: u64 = 7;
