@@ -20,10 +20,10 @@ use crate::choose::pair_side;
 use crate::choose::reacher;
 use crate::choose::root_rule;
 use crate::seek::put_walk;
+use files::number::wide;
 use files::sets;
 use reachable::reach::reach;
 use reachable::steps::context;
-use reachable::steps::wide;
 
 // Direct evidence stored from `start` on; the place after it.
 fn put_direct(

@@ -1,9 +1,7 @@
+-- `listing::lay::place_after` meets its contract.
 use borrow.Author.Needs.{needs}
 use Rattle.listing.proofs.lay.place_after.Statement.{statement}
 use Rattle.listing.proofs.lay.place_after.Tie as tie
-use Rattle.listing.proofs.lay.place_after.Reads as reads
-use Rattle.listing.proofs.lay.place_after.Lts as lts
-use Rattle.listing.proofs.lay.next_part.Reads as next-part-reads
 use Rattle.listing.proofs.Laying.{after-laws}
 
 enum-told : tie.Need-enum-told

@@ -1,10 +1,7 @@
+-- `reasoning::question::put_counter` meets its contract.
 use borrow.Author.Needs.{needs}
 use Rattle.reasoning.proofs.question.put_counter.Statement.{statement}
 use Rattle.reasoning.proofs.question.put_counter.Tie as tie
-use Rattle.reasoning.proofs.question.put_counter.Reads as reads
-use Rattle.reasoning.proofs.question.put_counter.Lts as lts
-use Rattle.handed.proofs.document.write_document.Reads as write-document-reads
-use Rattle.reasoning.proofs.question.denied.Reads as denied-reads
 use native.Mathlib.Omega.{arith}
 use Rattle.reasoning.proofs.Asking.{counter-writable, counter-put}
 

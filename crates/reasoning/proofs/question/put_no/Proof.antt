@@ -1,12 +1,7 @@
+-- `reasoning::question::put_no` meets its contract.
 use borrow.Author.Needs.{needs}
 use Rattle.reasoning.proofs.question.put_no.Statement.{statement}
 use Rattle.reasoning.proofs.question.put_no.Tie as tie
-use Rattle.reasoning.proofs.question.put_no.Reads as reads
-use Rattle.reasoning.proofs.question.put_no.Lts as lts
-use Rattle.files.proofs.sets.with.Reads as with-reads
-use Rattle.evidence.proofs.collect.implies.Reads as implies-reads
-use Rattle.reasoning.proofs.question.put_counter.Reads as put-counter-reads
-use Rattle.reachable.proofs.steps.context.Reads as context-reads
 use Rattle.reasoning.proofs.Asking.{no-context, no-requires, no-implication, no-absence, no-back, no-there}
 
 with-requires : tie.Need-with-requires
