@@ -3,6 +3,7 @@ pub mod Collect
 pub mod Depths
 pub mod FileParts
 pub mod FileSizes
+pub mod FirstBytes
 pub mod Formats
 pub mod Leading
 pub mod Numbers
