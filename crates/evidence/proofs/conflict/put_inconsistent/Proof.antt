@@ -1,7 +1,7 @@
--- `evidence::collect::put_inconsistent` meets its contract.
+-- `evidence::conflict::put_inconsistent` meets its contract.
 use borrow.Author.Needs.{needs}
-use Rattle.evidence.proofs.collect.put_inconsistent.Statement.{statement}
-use Rattle.evidence.proofs.collect.put_inconsistent.Tie as tie
+use Rattle.evidence.proofs.conflict.put_inconsistent.Statement.{statement}
+use Rattle.evidence.proofs.conflict.put_inconsistent.Tie as tie
 use Rattle.evidence.proofs.Choosing.{placed-laws}
 use Rattle.evidence.proofs.Answering.{inconsistent-laws}
 

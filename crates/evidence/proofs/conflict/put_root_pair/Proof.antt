@@ -1,7 +1,7 @@
--- `evidence::collect::put_root_pair` meets its contract.
+-- `evidence::conflict::put_root_pair` meets its contract.
 use borrow.Author.Needs.{needs}
-use Rattle.evidence.proofs.collect.put_root_pair.Statement.{statement}
-use Rattle.evidence.proofs.collect.put_root_pair.Tie as tie
+use Rattle.evidence.proofs.conflict.put_root_pair.Statement.{statement}
+use Rattle.evidence.proofs.conflict.put_root_pair.Tie as tie
 use Rattle.evidence.proofs.Answering.{root-pair-laws}
 
 element-copy-out-wide : tie.Need-element-copy-out-wide

@@ -1,7 +1,7 @@
--- `evidence::collect::consistent` meets its contract.
+-- `evidence::decide::consistent` meets its contract.
 use borrow.Author.Needs.{needs}
-use Rattle.evidence.proofs.collect.consistent.Statement.{statement}
-use Rattle.evidence.proofs.collect.consistent.Tie as tie
+use Rattle.evidence.proofs.decide.consistent.Statement.{statement}
+use Rattle.evidence.proofs.decide.consistent.Tie as tie
 use Rattle.evidence.proofs.Choosing.{placed-laws}
 use Rattle.evidence.proofs.Answering.{consistent-laws}
 

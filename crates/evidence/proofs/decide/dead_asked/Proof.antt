@@ -1,7 +1,7 @@
--- `evidence::collect::dead_asked` meets its contract.
+-- `evidence::decide::dead_asked` meets its contract.
 use borrow.Author.Needs.{needs}
-use Rattle.evidence.proofs.collect.dead_asked.Statement.{statement}
-use Rattle.evidence.proofs.collect.dead_asked.Tie as tie
+use Rattle.evidence.proofs.decide.dead_asked.Statement.{statement}
+use Rattle.evidence.proofs.decide.dead_asked.Tie as tie
 use Rattle.evidence.proofs.Answering.{dead-asked-is}
 
 dead-paths-requires : tie.Need-dead-paths-requires

@@ -1,7 +1,7 @@
--- `evidence::collect::excludes` meets its contract.
+-- `evidence::decide::excludes` meets its contract.
 use borrow.Author.Needs.{needs}
-use Rattle.evidence.proofs.collect.excludes.Statement.{statement}
-use Rattle.evidence.proofs.collect.excludes.Tie as tie
+use Rattle.evidence.proofs.decide.excludes.Statement.{statement}
+use Rattle.evidence.proofs.decide.excludes.Tie as tie
 use Rattle.evidence.proofs.Choosing.{placed-laws}
 use Rattle.evidence.proofs.Collecting.{absence-laws}
 

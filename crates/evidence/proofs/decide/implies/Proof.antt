@@ -1,7 +1,7 @@
--- `evidence::collect::implies` meets its contract.
+-- `evidence::decide::implies` meets its contract.
 use borrow.Author.Needs.{needs}
-use Rattle.evidence.proofs.collect.implies.Statement.{statement}
-use Rattle.evidence.proofs.collect.implies.Tie as tie
+use Rattle.evidence.proofs.decide.implies.Statement.{statement}
+use Rattle.evidence.proofs.decide.implies.Tie as tie
 use Rattle.evidence.proofs.Choosing.{placed-laws}
 use Rattle.evidence.proofs.Collecting.{implication-laws}
 

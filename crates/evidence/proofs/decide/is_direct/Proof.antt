@@ -1,7 +1,7 @@
--- `evidence::collect::is_direct` meets its contract.
+-- `evidence::decide::is_direct` meets its contract.
 use borrow.Author.Needs.{needs}
-use Rattle.evidence.proofs.collect.is_direct.Statement.{statement}
-use Rattle.evidence.proofs.collect.is_direct.Tie as tie
+use Rattle.evidence.proofs.decide.is_direct.Statement.{statement}
+use Rattle.evidence.proofs.decide.is_direct.Tie as tie
 use Rattle.evidence.proofs.Choosing.{placed-laws}
 use Rattle.evidence.proofs.Collecting.{implication-laws}
 

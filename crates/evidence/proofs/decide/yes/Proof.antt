@@ -1,7 +1,7 @@
--- `evidence::collect::yes` meets its contract.
+-- `evidence::decide::yes` meets its contract.
 use borrow.Author.Needs.{needs}
-use Rattle.evidence.proofs.collect.yes.Statement.{statement}
-use Rattle.evidence.proofs.collect.yes.Tie as tie
+use Rattle.evidence.proofs.decide.yes.Statement.{statement}
+use Rattle.evidence.proofs.decide.yes.Tie as tie
 use Rattle.evidence.proofs.Answering.{yes-laws}
 
 implies-requires : tie.Need-implies-requires
