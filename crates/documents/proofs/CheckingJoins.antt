@@ -13,7 +13,7 @@ use Rattle.files.specs.Number.{Bytes, bytesOfAll}
 use Rattle.files.specs.Format.{Outcome, got, refused, runAll}
 use Rattle.files.specs.Rules.{rulesOf, ValidTable}
 use Rattle.files.specs.Sets.{difference, lowest}
-use Rattle.files.specs.Table.{Path, Rule, Numbered, first, later}
+use Rattle.files.specs.Table.{Path, Rule, Numbered}
 use Rattle.files.specs.Writing.{tablePasses}
 use Rattle.files.proofs.Formats.{refused-if, refused-only}
 use Rattle.files.proofs.Reader.{paths-own}
@@ -29,7 +29,7 @@ use Rattle.documents.specs.Judgement.{parentsOf, Reads, PartBreaks, Leas
 use Rattle.documents.proofs.ValidLists.{read-valid, valid-read}
 use Rattle.documents.proofs.PartTrees.{stands}
 use Rattle.documents.proofs.HeldWords.{held-length}
-use Rattle.documents.proofs.RuleBreaks.{HitBy, RuleSearch, broken as found, unbroken, rule-search}
+use Rattle.documents.proofs.RuleBreaks.{HitBy, RuleSearch, broken as found, unbroken, numbered-unique, rule-search}
 use Rattle.documents.proofs.TreeBreaks.{
   hit-part,
   part-hit,
@@ -40,11 +40,6 @@ use Rattle.documents.proofs.TreeBreaks.{
   least-missing,
   missing-is,
 }
-
--- two rules of one number are the same
-numbered-same : {rules : List Rule} {r : ℕ} {ru q : Rule} → Numbered rules r ru → Numbered rules r q → ru ≡ q
-numbered-same first first = refl
-numbered-same (later a) (later b) = numbered-same a b
 
 -- ---- a valid table
 
@@ -198,7 +193,7 @@ module _ (t : Rules) (fits : t .required < 2 ^ 64) (s : List ℕ) where
         at-rule k′ i′ ru n h before earlier (no a) (yes b) = absurd (no-hit ru (l .rules-before k′ ru b n) i′ h (kinds n .0) (kinds n .1))
         at-rule k′ i′ ru n h before earlier (no a) (no b) =
             let same : k ≡ k′ = omega arith in
-            let e : l .rule ≡ ru = numbered-same (l .numbered) (subst (λ (x : ℕ). Numbered (rulesOf t .rules) x ru) (sym same) n) in
+            let e : l .rule ≡ ru = numbered-unique (l .numbered) (subst (λ (x : ℕ). Numbered (rulesOf t .rules) x ru) (sym same) n) in
             let z : k ≡ 0 + k′ = omega arith in
             ap₂ Checked.Broken z (least-part ru i′ e h before)
 

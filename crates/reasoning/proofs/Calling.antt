@@ -1,6 +1,6 @@
 -- The calls: from a table that passed its test to what they promise.
 use Prim.Native.Nat.{ℕ, _+_, _^_, _<_, _≤_}
-use mathlib.Core.Path.{_≡_, refl, sym, ap, subst, _∙_}
+use mathlib.Core.Path.{_≡_, sym, ap, subst, _∙_}
 use mathlib.Core.Bool.{Bool, true, false, not}
 use borrow.Author.Tests.{not-true, not-false}
 use mathlib.Core.List.{List, _∷_}
@@ -9,14 +9,13 @@ use lib.ListN.{length, take, drop, replicate}
 use lib.Seq.{length-sets, sets-eq, take-at}
 use Rattle.files.specs.declared.rules.Rules.{Rules}
 use Rattle.files.specs.declared.write.Written.{Written}
-use Rattle.files.specs.declared.write.Written.the-variants.{Length, Refused}
+use Rattle.files.specs.declared.write.Written.the-variants.{Refused}
 use Rattle.files.specs.Number.{bytesOfAll}
 use Rattle.files.specs.Rules.{rulesOf, parentsIn, ValidTable}
 use Rattle.files.specs.Writing.{tablePasses, put, wrapped, Puts}
 use Rattle.files.specs.Sets.{withPath}
 use Rattle.files.proofs.TableTests.{passes-valid}
 use Rattle.reasoning.specs.declared.consistency.Verdict.{Verdict}
-use Rattle.reasoning.specs.declared.question.Reply.{Reply}
 use Rattle.reachable.specs.Arrays.{parentOf, ruleList, Parents, Sound}
 use Rattle.documents.specs.Judgement.{parentsOf}
 use Rattle.reasoning.specs.Calls.{answerOf, DecidesConsistency}

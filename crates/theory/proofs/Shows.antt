@@ -35,7 +35,8 @@ use Rattle.theory.specs.Evidence.{
   consistentb,
   evidenceNumbers,
 }
-use Rattle.theory.proofs.Walks.{numbered-unique, walk-start}
+use Rattle.theory.proofs.Walks.{walk-start}
+use Rattle.documents.proofs.RuleBreaks.{numbered-unique}
 use Rattle.theory.proofs.Writes.{implies-iff, excludes-iff, consistent-iff, evidence-written}
 
 module _ {parent : ℕ → ℕ} {rules : List Rule} where
