@@ -13,7 +13,7 @@ use Rattle.files.specs.Number.{Bytes, bytesOfAll}
 use Rattle.files.specs.Format.{Outcome, got, refused, runAll}
 use Rattle.files.specs.Rules.{rulesOf, ValidTable}
 use Rattle.files.specs.Sets.{difference, lowest}
-use Rattle.files.specs.Table.{Path, Rule, Numbered, first, later}
+use Rattle.files.specs.Table.{Path, Rule, Numbered}
 use Rattle.files.specs.Writing.{tablePasses}
 use Rattle.files.proofs.Formats.{refused-if, refused-only}
 use Rattle.files.proofs.Reader.{paths-own}
@@ -25,11 +25,11 @@ use Rattle.documents.specs.Tree.{Forest}
 use Rattle.documents.specs.Obey.{ObeysRule, Obeys}
 use Rattle.documents.specs.PartList.{Entry, documentFile, documentNumbers}
 use Rattle.documents.specs.Checking.{held, brokenFrom, orMissing, verdict, judged, checkAnswer, CheckDocument}
-use Rattle.documents.specs.Judgement.{parentOf, Reads, PartBreaks, LeastBreak, Judged, table, long, file, obeys, broken, missing}
+use Rattle.documents.specs.Judgement.{parentsOf, Reads, PartBreaks, LeastBreak, Judged, table, long, file, obeys, broken, missing}
 use Rattle.documents.proofs.ValidLists.{read-valid, valid-read}
 use Rattle.documents.proofs.PartTrees.{stands}
 use Rattle.documents.proofs.HeldWords.{held-length}
-use Rattle.documents.proofs.RuleBreaks.{HitBy, RuleSearch, broken as found, unbroken, rule-search}
+use Rattle.documents.proofs.RuleBreaks.{HitBy, RuleSearch, broken as found, unbroken, numbered-unique, rule-search}
 use Rattle.documents.proofs.TreeBreaks.{
   hit-part,
   part-hit,
@@ -41,11 +41,6 @@ use Rattle.documents.proofs.TreeBreaks.{
   missing-is,
 }
 
--- two rules of one number are the same
-numbered-same : {rules : List Rule} {r : ℕ} {ru q : Rule} → Numbered rules r ru → Numbered rules r q → ru ≡ q
-numbered-same first first = refl
-numbered-same (later a) (later b) = numbered-same a b
-
 -- ---- a valid table
 
 module _ (t : Rules) (v : ValidTable t) where
@@ -56,27 +51,27 @@ module _ (t : Rules) (v : ValidTable t) where
   pub few-paths : t .paths ≤ 64
   few-paths = omega (arith, count-is, v .valid .paths)
 
-  past-table : (x : ℕ) → t .paths ≤ x → parentOf t x ≡ 0
+  past-table : (x : ℕ) → t .paths ≤ x → parentsOf t x ≡ 0
   past-table zero h = refl
   past-table (suc x) h =
       List·getD-eq-default (map (λ (p : Path). p .parent) (rulesOf t .paths)) 0
       (omega (arith, length-map (rulesOf t .paths) (λ (p : Path). p .parent), count-is))
 
-  below-own : (x : ℕ) → 0 < x → parentOf t x < x
+  below-own : (x : ℕ) → 0 < x → parentsOf t x < x
   below-own x h = by (decLt x (t .paths))
     where
-      by : Dec (x < t .paths) → parentOf t x < x
+      by : Dec (x < t .paths) → parentsOf t x < x
       by (yes l) = v .valid .smaller x h (omega (arith, count-is))
       by (no l) = omega (arith, past-table x (omega arith))
 
-  pub descending : Descending (parentOf t)
+  pub descending : Descending (parentsOf t)
   descending = record { root = refl; smaller = below-own }
 
-  pub below-64 : (x : ℕ) → parentOf t x < 64
+  pub below-64 : (x : ℕ) → parentsOf t x < 64
   below-64 zero = omega arith
   below-64 (suc x) = by (decLt (suc x) (t .paths))
     where
-      by : Dec (suc x < t .paths) → parentOf t (suc x) < 64
+      by : Dec (suc x < t .paths) → parentsOf t (suc x) < 64
       by (yes l) = omega (arith, below-own (suc x) (omega arith), few-paths)
       by (no l) = omega (arith, past-table (suc x) (omega arith))
 
@@ -85,7 +80,7 @@ module _ (t : Rules) (v : ValidTable t) where
 module _ (t : Rules) (fits : t .required < 2 ^ 64) (s : List ℕ) where
   -- the verdict on the parts
   verdictOn : List Entry → Checked
-  verdictOn es = verdict (t .required) (getD (held es) 0 0) (brokenFrom (parentOf t) 0 (rulesOf t .rules) es (held es))
+  verdictOn es = verdict (t .required) (getD (held es) 0 0) (brokenFrom (parentsOf t) 0 (rulesOf t .rules) es (held es))
 
   module _ {es : List Entry} {d : Forest} (reads : Reads t s es d) where
     valid : ValidTable t
@@ -95,34 +90,34 @@ module _ (t : Rules) (fits : t .required < 2 ^ 64) (s : List ℕ) where
     unfolding held
     sets-long = held-length 0 es
 
-    searched : RuleSearch (parentOf t) es (held es) 0 (rulesOf t .rules) (brokenFrom (parentOf t) 0 (rulesOf t .rules) es (held es))
-    searched = rule-search (parentOf t) es (held es) sets-long 0 (rulesOf t .rules)
+    searched : RuleSearch (parentsOf t) es (held es) 0 (rulesOf t .rules) (brokenFrom (parentsOf t) 0 (rulesOf t .rules) es (held es))
+    searched = rule-search (parentsOf t) es (held es) sets-long 0 (rulesOf t .rules)
 
     -- where no part breaks any rule by its set, the document obeys
-    obeys-all : ((r : ℕ) (q : Rule) → Numbered (rulesOf t .rules) r q → (j : ℕ) → ¬ HitBy (parentOf t) es (held es) q j)
-        → Obeys (parentOf t) (rulesOf t .rules) d
+    obeys-all : ((r : ℕ) (q : Rule) → Numbered (rulesOf t .rules) r q → (j : ℕ) → ¬ HitBy (parentsOf t) es (held es) q j)
+        → Obeys (parentsOf t) (rulesOf t .rules) d
     obeys-all none = record {
       each = λ r q n. rule-obeyed (descending t valid) (few-paths t valid) (reads .parts) (reads .tree) q (none r q n);
     }
 
-    no-hit : (q : Rule) → ObeysRule (parentOf t) q d → (j : ℕ) → HitBy (parentOf t) es (held es) q j → 1 ≤ q .kind → q .kind ≤ 3 → ⊥
+    no-hit : (q : Rule) → ObeysRule (parentsOf t) q d → (j : ℕ) → HitBy (parentsOf t) es (held es) q j → 1 ≤ q .kind → q .kind ≤ 3 → ⊥
     no-hit q o j h some few =
         part-broken (descending t valid) (few-paths t valid) (reads .parts) (reads .tree) q j
         (hit-part (descending t valid) (few-paths t valid) (reads .parts) (reads .tree) q j some few h) o
 
-    hit-breaks : {k : ℕ} (q : Rule) → Numbered (rulesOf t .rules) k q → (i : ℕ) → HitBy (parentOf t) es (held es) q i
-        → PartBreaks (parentOf t) q es d i
+    hit-breaks : {k : ℕ} (q : Rule) → Numbered (rulesOf t .rules) k q → (i : ℕ) → HitBy (parentsOf t) es (held es) q i
+        → PartBreaks (parentsOf t) q es d i
     hit-breaks {k} q n i h =
         let b = valid .valid .kind k q n in
         hit-part (descending t valid) (few-paths t valid) (reads .parts) (reads .tree) q i (b .0) (b .1) h
 
-    breaks-hit : (q : Rule) (i : ℕ) → PartBreaks (parentOf t) q es d i → HitBy (parentOf t) es (held es) q i
+    breaks-hit : (q : Rule) (i : ℕ) → PartBreaks (parentsOf t) q es d i → HitBy (parentsOf t) es (held es) q i
     breaks-hit = part-hit (descending t valid) (few-paths t valid) (reads .parts) (reads .tree)
 
-    least : (k i : ℕ) (ru : Rule) → Numbered (rulesOf t .rules) k ru → HitBy (parentOf t) es (held es) ru i
-        → ((j : ℕ) → j < i → ¬ HitBy (parentOf t) es (held es) ru j)
-        → ((r : ℕ) (q : Rule) → r < k → Numbered (rulesOf t .rules) r q → (j : ℕ) → ¬ HitBy (parentOf t) es (held es) q j)
-        → LeastBreak (parentOf t) (rulesOf t .rules) es d k i
+    least : (k i : ℕ) (ru : Rule) → Numbered (rulesOf t .rules) k ru → HitBy (parentsOf t) es (held es) ru i
+        → ((j : ℕ) → j < i → ¬ HitBy (parentsOf t) es (held es) ru j)
+        → ((r : ℕ) (q : Rule) → r < k → Numbered (rulesOf t .rules) r q → (j : ℕ) → ¬ HitBy (parentsOf t) es (held es) q j)
+        → LeastBreak (parentsOf t) (rulesOf t .rules) es d k i
     least k i ru n h before earlier =
         let b = hit-breaks ru n i h in
         record {
@@ -134,7 +129,7 @@ module _ (t : Rules) (fits : t .required < 2 ^ 64) (s : List ℕ) where
           parts-before = λ j l p. before j l (breaks-hit ru j p);
         }
 
-    missed : (e : Bool) → eqb (difference (t .required) (getD (held es) 0 0)) 0 ≡ e → Obeys (parentOf t) (rulesOf t .rules) d
+    missed : (e : Bool) → eqb (difference (t .required) (getD (held es) 0 0)) 0 ≡ e → Obeys (parentsOf t) (rulesOf t .rules) d
         → Judged t s (cond e Checked.Obeys (Checked.Missing (lowest (difference (t .required) (getD (held es) 0 0)))))
     unfolding rulesOf
     missed true e o =
@@ -151,7 +146,7 @@ module _ (t : Rules) (fits : t .required < 2 ^ 64) (s : List ℕ) where
     unfolding verdictOn verdict orMissing
     parts-judged = by searched
       where
-        by : {b : Break} → RuleSearch (parentOf t) es (held es) 0 (rulesOf t .rules) b
+        by : {b : Break} → RuleSearch (parentsOf t) es (held es) 0 (rulesOf t .rules) b
             → Judged t s (verdict (t .required) (getD (held es) 0 0) b)
         by (found k i ru n h before earlier) =
             let z : k ≡ 0 + k = omega arith in
@@ -162,47 +157,47 @@ module _ (t : Rules) (fits : t .required < 2 ^ 64) (s : List ℕ) where
     kinds : {r : ℕ} {q : Rule} → Numbered (rulesOf t .rules) r q → (1 ≤ q .kind) × (q .kind ≤ 3)
     kinds {r} {q} n = valid .valid .kind r q n
 
-    obeyed-verdict : Obeys (parentOf t) (rulesOf t .rules) d → verdictOn es ≡ orMissing (t .required) (getD (held es) 0 0)
+    obeyed-verdict : Obeys (parentsOf t) (rulesOf t .rules) d → verdictOn es ≡ orMissing (t .required) (getD (held es) 0 0)
     unfolding verdictOn verdict
     obeyed-verdict o = by searched
       where
-        by : {b : Break} → RuleSearch (parentOf t) es (held es) 0 (rulesOf t .rules) b
+        by : {b : Break} → RuleSearch (parentsOf t) es (held es) 0 (rulesOf t .rules) b
             → verdict (t .required) (getD (held es) 0 0) b ≡ orMissing (t .required) (getD (held es) 0 0)
         by (found k i ru n h before earlier) = absurd (no-hit ru (o .each k ru n) i h (kinds n .0) (kinds n .1))
         by (unbroken none) = refl
 
-    broken-verdict : (k i : ℕ) → LeastBreak (parentOf t) (rulesOf t .rules) es d k i → Checked.Broken k i ≡ verdictOn es
+    broken-verdict : (k i : ℕ) → LeastBreak (parentsOf t) (rulesOf t .rules) es d k i → Checked.Broken k i ≡ verdictOn es
     unfolding verdictOn verdict
     broken-verdict k i l = by searched
       where
-        least-part : (ru : Rule) (i′ : ℕ) → l .rule ≡ ru → HitBy (parentOf t) es (held es) ru i′
-            → ((j : ℕ) → j < i′ → ¬ HitBy (parentOf t) es (held es) ru j) → i ≡ i′
+        least-part : (ru : Rule) (i′ : ℕ) → l .rule ≡ ru → HitBy (parentsOf t) es (held es) ru i′
+            → ((j : ℕ) → j < i′ → ¬ HitBy (parentsOf t) es (held es) ru j) → i ≡ i′
         least-part ru i′ e h before = at (decLt i i′) (decLt i′ i)
           where
-            mine : HitBy (parentOf t) es (held es) ru i
-            mine = subst (λ (q : Rule). HitBy (parentOf t) es (held es) q i) e (breaks-hit (l .rule) i (l .part))
+            mine : HitBy (parentsOf t) es (held es) ru i
+            mine = subst (λ (q : Rule). HitBy (parentsOf t) es (held es) q i) e (breaks-hit (l .rule) i (l .part))
 
-            yours : PartBreaks (parentOf t) (l .rule) es d i′
-            yours = hit-breaks (l .rule) (l .numbered) i′ (subst (λ (q : Rule). HitBy (parentOf t) es (held es) q i′) (sym e) h)
+            yours : PartBreaks (parentsOf t) (l .rule) es d i′
+            yours = hit-breaks (l .rule) (l .numbered) i′ (subst (λ (q : Rule). HitBy (parentsOf t) es (held es) q i′) (sym e) h)
 
             at : Dec (i < i′) → Dec (i′ < i) → i ≡ i′
             at (yes a) b = absurd (before i a mine)
             at (no a) (yes b) = absurd (l .parts-before i′ b yours)
             at (no a) (no b) = omega arith
 
-        at-rule : (k′ i′ : ℕ) (ru : Rule) → Numbered (rulesOf t .rules) k′ ru → HitBy (parentOf t) es (held es) ru i′
-            → ((j : ℕ) → j < i′ → ¬ HitBy (parentOf t) es (held es) ru j)
-            → ((r : ℕ) (q : Rule) → r < k′ → Numbered (rulesOf t .rules) r q → (j : ℕ) → ¬ HitBy (parentOf t) es (held es) q j)
+        at-rule : (k′ i′ : ℕ) (ru : Rule) → Numbered (rulesOf t .rules) k′ ru → HitBy (parentsOf t) es (held es) ru i′
+            → ((j : ℕ) → j < i′ → ¬ HitBy (parentsOf t) es (held es) ru j)
+            → ((r : ℕ) (q : Rule) → r < k′ → Numbered (rulesOf t .rules) r q → (j : ℕ) → ¬ HitBy (parentsOf t) es (held es) q j)
             → Dec (k < k′) → Dec (k′ < k) → Checked.Broken k i ≡ Checked.Broken (0 + k′) i′
         at-rule k′ i′ ru n h before earlier (yes a) b = absurd (earlier k (l .rule) a (l .numbered) i (breaks-hit (l .rule) i (l .part)))
         at-rule k′ i′ ru n h before earlier (no a) (yes b) = absurd (no-hit ru (l .rules-before k′ ru b n) i′ h (kinds n .0) (kinds n .1))
         at-rule k′ i′ ru n h before earlier (no a) (no b) =
             let same : k ≡ k′ = omega arith in
-            let e : l .rule ≡ ru = numbered-same (l .numbered) (subst (λ (x : ℕ). Numbered (rulesOf t .rules) x ru) (sym same) n) in
+            let e : l .rule ≡ ru = numbered-unique (l .numbered) (subst (λ (x : ℕ). Numbered (rulesOf t .rules) x ru) (sym same) n) in
             let z : k ≡ 0 + k′ = omega arith in
             ap₂ Checked.Broken z (least-part ru i′ e h before)
 
-        by : {b : Break} → RuleSearch (parentOf t) es (held es) 0 (rulesOf t .rules) b
+        by : {b : Break} → RuleSearch (parentsOf t) es (held es) 0 (rulesOf t .rules) b
             → Checked.Broken k i ≡ verdict (t .required) (getD (held es) 0 0) b
         by (found k′ i′ ru n h before earlier) = at-rule k′ i′ ru n h before earlier (decLt k k′) (decLt k′ k)
         by (unbroken none) = absurd (none k (l .rule) (l .numbered) i (breaks-hit (l .rule) i (l .part)))
@@ -213,17 +208,17 @@ module _ (t : Rules) (fits : t .required < 2 ^ 64) (s : List ℕ) where
     passes : tablePasses t ≡ true
     passes = passes-valid t fits .1 v
 
-    answer-file : checkAnswer t s ≡ judged (parentOf t) (rulesOf t .rules) (t .required) (runAll (documentFile (parentOf t) (t .paths)) s)
+    answer-file : checkAnswer t s ≡ judged (parentsOf t) (rulesOf t .rules) (t .required) (runAll (documentFile (parentsOf t) (t .paths)) s)
     unfolding checkAnswer
     answer-file = rw (passes, le-ltb 65536 (length s) short)
 
-    answer-got : (es : List Entry) (at : ℕ) → runAll (documentFile (parentOf t) (t .paths)) s ≡ got es at → checkAnswer t s ≡ verdictOn es
+    answer-got : (es : List Entry) (at : ℕ) → runAll (documentFile (parentsOf t) (t .paths)) s ≡ got es at → checkAnswer t s ≡ verdictOn es
     unfolding judged verdictOn
-    answer-got es at e = answer-file ∙ ap (judged (parentOf t) (rulesOf t .rules) (t .required)) e
+    answer-got es at e = answer-file ∙ ap (judged (parentsOf t) (rulesOf t .rules) (t .required)) e
 
-    answer-refused : (k at : ℕ) → runAll (documentFile (parentOf t) (t .paths)) s ≡ refused k at → checkAnswer t s ≡ Checked.Refused k at
+    answer-refused : (k at : ℕ) → runAll (documentFile (parentsOf t) (t .paths)) s ≡ refused k at → checkAnswer t s ≡ Checked.Refused k at
     unfolding judged
-    answer-refused k at e = answer-file ∙ ap (judged (parentOf t) (rulesOf t .rules) (t .required)) e
+    answer-refused k at e = answer-file ∙ ap (judged (parentsOf t) (rulesOf t .rules) (t .required)) e
 
   answer-long : ValidTable t → 65536 < length s → checkAnswer t s ≡ Checked.Refused 14 0
   unfolding checkAnswer
@@ -244,15 +239,15 @@ module _ (t : Rules) (fits : t .required < 2 ^ 64) (s : List ℕ) where
   reads-got : {es : List Entry} {d : Forest} → Reads t s es d → checkAnswer t s ≡ verdictOn es
   reads-got {es} r =
       answer-got (r .table) (r .short) es (length (bytesOfAll (documentNumbers es)))
-      (ap (runAll (documentFile (parentOf t) (t .paths))) (r .bytes)
-      ∙ valid-read (parentOf t) (t .paths) (r .table .some) (few-paths t (r .table)) (below-64 t (r .table)) es (r .parts))
+      (ap (runAll (documentFile (parentsOf t) (t .paths))) (r .bytes)
+      ∙ valid-read (parentsOf t) (t .paths) (r .table .some) (few-paths t (r .table)) (below-64 t (r .table)) es (r .parts))
 
   -- no answer but this one is so
   judged-only : (q : Checked) → Judged t s q → q ≡ checkAnswer t s
   unfolding orMissing rulesOf
   judged-only q (table n) = sym (answer-table (invalid n))
   judged-only q (long v l) = sym (answer-long v l)
-  judged-only q (file {k} {at} v l r) = sym (answer-refused v l k at (refused-if (documentFile (parentOf t) (t .paths)) s k at r))
+  judged-only q (file {k} {at} v l r) = sym (answer-refused v l k at (refused-if (documentFile (parentsOf t) (t .paths)) s k at r))
   judged-only q (obeys {es} r o h) =
       let v = r .table in
       let e = none-missing (descending t v) (few-paths t v) (r .parts) (r .tree) (t .required) fits h in
@@ -269,12 +264,12 @@ module _ (t : Rules) (fits : t .required < 2 ^ 64) (s : List ℕ) where
   answer-judged : Bytes s → Judged t s (checkAnswer t s)
   answer-judged bs = by (tablePasses t) refl (decLt 65536 (length s))
     where
-      read : (v : ValidTable t) → length s ≤ 65536 → (o : Outcome (List Entry)) → runAll (documentFile (parentOf t) (t .paths)) s ≡ o
+      read : (v : ValidTable t) → length s ≤ 65536 → (o : Outcome (List Entry)) → runAll (documentFile (parentsOf t) (t .paths)) s ≡ o
           → Judged t s (checkAnswer t s)
       read v l (refused k at) e =
-          subst (Judged t s) (sym (answer-refused v l k at e)) (file v l (refused-only (documentFile (parentOf t) (t .paths)) s bs k at e))
+          subst (Judged t s) (sym (answer-refused v l k at e)) (file v l (refused-only (documentFile (parentsOf t) (t .paths)) s bs k at e))
       read v l (got es at) e =
-          let p = read-valid (parentOf t) (t .paths) (v .some) (few-paths t v) (below-64 t v) es s bs at e in
+          let p = read-valid (parentsOf t) (t .paths) (v .some) (few-paths t v) (below-64 t v) es s bs at e in
           let d = stands (p .0) in
           let r : Reads t s es (d .0) = record { table = v; short = l; parts = p .0; bytes = p .1; tree = d .1 } in
           subst (Judged t s) (sym (answer-got v l es at e)) (parts-judged r)
@@ -285,7 +280,7 @@ module _ (t : Rules) (fits : t .required < 2 ^ 64) (s : List ℕ) where
           no-both : tablePasses t ≡ false → tablePasses t ≡ true → ⊥
           no-both f g = false≢true (sym f ∙ g)
       by true e (yes h) = let v = passes-valid t fits .0 e in subst (Judged t s) (sym (answer-long v h)) (long v h)
-      by true e (no h) = read (passes-valid t fits .0 e) (omega arith) (runAll (documentFile (parentOf t) (t .paths)) s) refl
+      by true e (no h) = read (passes-valid t fits .0 e) (omega arith) (runAll (documentFile (parentsOf t) (t .paths)) s) refl
 
 -- the contract in the words of the code, where each byte of the slice is known to fit
 pub checks : (t : Rules) (s : List ℕ) (r : Checked) → t .required < 2 ^ 64 → ((i : ℕ) → getD s i 0 < 256) → r ≡ checkAnswer t s

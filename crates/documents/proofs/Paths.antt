@@ -200,10 +200,6 @@ module _ {parent : ℕ → ℕ} (desc : Descending parent) where
   pub contextOf-self : (p : ℕ) → contextOf parent p p ≡ p
   contextOf-self p = context-is (context-prefix (below-refl p))
 
-  -- the computed context does not depend on the order
-  pub contextOf-sym : (p q : ℕ) → contextOf parent p q ≡ contextOf parent q p
-  contextOf-sym p q = context-is (context-sym (contextOf-context q p))
-
   -- what climbing under c ends at, for x strictly below c
   record Child (c k x : ℕ) : Type 0 where
     parent-is : parent k ≡ c
@@ -314,3 +310,15 @@ module _ {parent : ℕ → ℕ} (desc : Descending parent) where
   depth-strictly {c} {x} s =
       let l : c < x = strictly-lt s in
       omega (arith, depth-below (strictly-up s), depth-child x (omega arith))
+
+  -- of a path's prefixes each has its own depth
+  pub prefix-depth : {c d x : ℕ} → Below parent c x → Below parent d x → depthOf parent c ≡ depthOf parent d → c ≡ d
+  prefix-depth {c} {d} a b e = pick (below-comparable a b)
+    where
+      strict : {x y : ℕ} → depthOf parent x ≡ depthOf parent y → (x ≡ y) ⊎ StrictlyBelow parent x y → x ≡ y
+      strict e (inl p) = p
+      strict e (inr s) = absurd (omega (arith, depth-strictly s))
+
+      pick : Below parent c d ⊎ Below parent d c → c ≡ d
+      pick (inl k) = strict e (below-strictly k)
+      pick (inr k) = sym (strict (sym e) (below-strictly k))

@@ -174,6 +174,11 @@ pub data RuleSearch (parent : ℕ → ℕ) (es : List Entry) (sets : List ℕ) (
       → RuleSearch parent es sets n rules (Break.Broken (n + k) i)
   unbroken : ((r : ℕ) (q : Rule) → Numbered rules r q → (j : ℕ) → ¬ HitBy parent es sets q j) → RuleSearch parent es sets n rules Unbroken
 
+-- a rule number names one rule
+pub numbered-unique : {rules : List Rule} {r : ℕ} {a b : Rule} → Numbered rules r a → Numbered rules r b → a ≡ b
+numbered-unique first first = refl
+numbered-unique (later m) (later n) = numbered-unique m n
+
 no-rule : {r : ℕ} {q : Rule} → Numbered [] r q → ⊥
 no-rule h = elim h [ ]
 

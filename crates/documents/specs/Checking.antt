@@ -9,7 +9,7 @@ use Rattle.files.specs.declared.rules.Rules.{Rules}
 use Rattle.files.specs.Format.{Outcome, got, refused, runAll}
 use Rattle.files.specs.Rules.{rulesOf}
 use Rattle.files.specs.Sets.{hasb, withPath, union, difference, lowest}
-use Rattle.files.specs.Table.{Rule, parentIn}
+use Rattle.files.specs.Table.{Rule}
 use Rattle.files.specs.Writing.{tablePasses}
 use Rattle.documents.specs.declared.check.Checked.{Checked}
 use Rattle.documents.specs.declared.check.Checked.the-variants.{Obeys, Broken, Missing, Refused}
@@ -19,10 +19,9 @@ use Rattle.documents.specs.declared.check.Break.{Break}
 use Rattle.documents.specs.declared.check.Break.the-variants.{Unbroken}
 use Rattle.documents.specs.Paths.{contextOf}
 use Rattle.documents.specs.PartList.{Entry, documentFile}
-use Rattle.documents.specs.Judgement.{Judged}
+use Rattle.documents.specs.Judgement.{parentsOf, Judged}
 
--- the sets of paths that parts hold, all that parts hold which a list of numbers names: `sets` has those of the parts from
--- number `first` on
+-- all that the parts of a list of numbers hold, where `sets` has what each part holds, from part number `first` on
 unfoldable pub heldBy : ℕ → List ℕ → List ℕ → ℕ
 heldBy first sets [] = 0
 heldBy first sets (k ∷ ks) = union (getD sets (k - first) 0) (heldBy first sets ks)
@@ -80,8 +79,8 @@ unfoldable pub checkAnswer : Rules → List ℕ → Checked
 checkAnswer t s =
     cond (tablePasses t)
     (cond (ltb 65536 (length s)) (Refused 14 0)
-    (judged (parentIn (rulesOf t .paths)) (rulesOf t .rules) (t .required)
-    (runAll (documentFile (parentIn (rulesOf t .paths)) (t .paths)) s)))
+    (judged (parentsOf t) (rulesOf t .rules) (t .required)
+    (runAll (documentFile (parentsOf t) (t .paths)) s)))
     (Refused 12 0)
 
 -- what checking a document promises, on every table and all bytes

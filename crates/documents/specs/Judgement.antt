@@ -46,15 +46,15 @@ pub record LeastMissing (required : List ℕ) (d : Forest) (x : ℕ) : Type 0 wh
   pub missing : ¬ Holds d x
   pub before : (y : ℕ) → y < x → List·Memᴰ y required → Holds d y
 
--- the parents and the path count of a table handed in
-abbrev pub parentOf : Rules → ℕ → ℕ
-parentOf t = parentIn (rulesOf t .paths)
+-- the parents of a table handed in
+abbrev pub parentsOf : Rules → ℕ → ℕ
+parentsOf t = parentIn (rulesOf t .paths)
 
 -- the bytes are those of the valid part list es, for a valid table, and the list stands for the document d
 pub record Reads (t : Rules) (s : List ℕ) (es : List Entry) (d : Forest) : Type 0 where
   pub table : ValidTable t
   pub short : length s ≤ 65536
-  pub parts : ValidParts (parentOf t) (t .paths) es
+  pub parts : ValidParts (parentsOf t) (t .paths) es
   pub bytes : s ≡ bytesOfAll (documentNumbers es)
   pub tree : StandsFor es d
 
@@ -63,14 +63,14 @@ pub data Judged (t : Rules) (s : List ℕ) : Checked → Type 0 where
   -- refusal 12 where the table breaks a condition, then 14 where the document is too long, then the file's own
   table : ¬ ValidTable t → Judged t s (Checked.Refused 12 0)
   long : ValidTable t → 65536 < length s → Judged t s (Checked.Refused 14 0)
-  file : {k at : ℕ} → ValidTable t → length s ≤ 65536 → RefusedAt (documentFile (parentOf t) (t .paths)) s k at
+  file : {k at : ℕ} → ValidTable t → length s ≤ 65536 → RefusedAt (documentFile (parentsOf t) (t .paths)) s k at
       → Judged t s (Checked.Refused k at)
   -- the document obeys every rule and holds every required path
-  obeys : {es : List Entry} {d : Forest} → Reads t s es d → Obeys (parentOf t) (rulesOf t .rules) d
+  obeys : {es : List Entry} {d : Forest} → Reads t s es d → Obeys (parentsOf t) (rulesOf t .rules) d
       → HoldsAll (rulesOf t .required) d → Judged t s Checked.Obeys
   -- the least broken rule and the least part on its context that breaks it
-  broken : {es : List Entry} {d : Forest} {k i : ℕ} → Reads t s es d → LeastBreak (parentOf t) (rulesOf t .rules) es d k i
+  broken : {es : List Entry} {d : Forest} {k i : ℕ} → Reads t s es d → LeastBreak (parentsOf t) (rulesOf t .rules) es d k i
       → Judged t s (Checked.Broken k i)
   -- no rule is broken: the least required path missing
-  missing : {es : List Entry} {d : Forest} {x : ℕ} → Reads t s es d → Obeys (parentOf t) (rulesOf t .rules) d
+  missing : {es : List Entry} {d : Forest} {x : ℕ} → Reads t s es d → Obeys (parentsOf t) (rulesOf t .rules) d
       → LeastMissing (rulesOf t .required) d x → Judged t s (Checked.Missing x)

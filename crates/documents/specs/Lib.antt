@@ -1,3 +1,4 @@
+-- The definitions of paths, trees and obeying, of part lists, and of what checking a document answers.
 pub mod Paths
 pub mod Tree
 pub mod Obey

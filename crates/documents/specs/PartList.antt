@@ -63,10 +63,11 @@ moreParts parent count size (suc k) es = andThen (onePart parent count size es) 
 unfoldable pub documentFile : (parent : ℕ → ℕ) (count : ℕ) → Format (List Entry)
 documentFile parent count = want (between 1 513 15) (λ size. moreParts parent count size size [])
 
--- the path of a part, by its number, and the parts that it names
+-- the path of a part, by its number
 unfoldable pub entryPath : List Entry → ℕ → ℕ
 entryPath es n = getD (map (λ (e : Entry). e .path) es) n 0
 
+-- the parts that a part names, by its number
 unfoldable pub entryKids : List Entry → ℕ → List ℕ
 entryKids es n = getD (map (λ (e : Entry). e .kids) es) n []
 

@@ -14,7 +14,7 @@ use Rattle.files.specs.Sets.{hasb, lowest, UpTo64}
 use Rattle.files.proofs.Stores.{sets-append}
 use Rattle.documents.specs.Paths.{contextOf}
 use Rattle.theory.specs.Walk.{DeadBy}
-use Rattle.theory.specs.Reachable.{Fits, reachb}
+use Rattle.theory.specs.Reachable.{reachb}
 use Rattle.theory.specs.Search.{writtenWalk}
 use Rattle.theory.specs.Decide.{clashRule, deadPath, deadRule, isDead, pairRule, pairSide, isPair}
 use Rattle.theory.specs.Evidence.{
@@ -172,9 +172,6 @@ passes b e = rw e tt
 
 module _ (parent kind left right depth table : List ℕ) (count many clash : ℕ)
     (known : Decided parent kind left right count many depth table clash) where
-  fits : Fits (parentOf parent) (ruleList kind left right many) count
-  fits = sound-fits (known .known .sound)
-
   module _ (p : ℕ) (low : p < count) where
     pub dead-test : (t u : Bool) → t ≡ deadIn depth table clash p → t ≡ u
         → isDead (parentOf parent) (ruleList kind left right many) count p ≡ u
@@ -183,7 +180,7 @@ module _ (parent kind left right depth table : List ℕ) (count many clash : ℕ
     module _ (dead : isDead (parentOf parent) (ruleList kind left right many) count p ≡ true) where
       by : DeadBy (parentOf parent) (ruleList kind left right many) p
           (deadPath (parentOf parent) (ruleList kind left right many) count p) (deadRule (parentOf parent) (ruleList kind left right many) count p)
-      by = dead-least fits p low (isDead-iff fits p low .0 (passes _ dead)) .by
+      by = dead-least (sound-fits (known .known .sound)) p low (isDead-iff (sound-fits (known .known .sound)) p low .0 (passes _ dead)) .by
 
       module _ (w y : ℕ) (from : w ≡ clashesIn depth table clash p) (least : UpTo64 (lowest w) y) where
         path-is : y ≡ deadPath (parentOf parent) (ruleList kind left right many) count p
@@ -191,7 +188,7 @@ module _ (parent kind left right depth table : List ℕ) (count many clash : ℕ
         path-is = least .is ∙ ap lowest (from ∙ from-same (known .known) clash (known .clashes) p low)
 
         pub dead-path-low : y < count
-        dead-path-low = rw path-is (walk-in-table fits low (by .here .walk))
+        dead-path-low = rw path-is (walk-in-table (sound-fits (known .known .sound)) low (by .here .walk))
 
         module _ (x : ℕ) (rule : x ≡ clashRule (parentOf parent) (ruleList kind left right many) count y) where
           rule-is : x ≡ deadRule (parentOf parent) (ruleList kind left right many) count p

@@ -1,3 +1,4 @@
+-- The laws of choosing, of seeking walks, of collecting evidence and of answering from words.
 pub mod Answering
 pub mod Choosing
 pub mod Collecting

@@ -37,7 +37,8 @@ use Rattle.theory.specs.Decide.{
 use Rattle.reachable.specs.Arrays.{parentOf, ruleOf, ruleList}
 use Rattle.reachable.specs.Known.{lookup, Placed, reached, Known}
 use Rattle.evidence.specs.Words.{joinIf, joinPassing, bothIn, clashIn, clashBy, clashAll, clashesIn, deadIn, sidesIn, straightIn, pairIn, askedIn, joinAsked, fromAsked, rootIn, pairTest, reacherTest}
-use Rattle.theory.proofs.Walks.{numbered-lt, numbered-unique, reach-refl, reach-start}
+use Rattle.documents.proofs.RuleBreaks.{numbered-unique}
+use Rattle.theory.proofs.Walks.{numbered-lt, reach-refl, reach-start}
 use Rattle.theory.proofs.Reachable.{T-hasb, reachable-iff}
 use Rattle.theory.proofs.Least.{least-passes, least-some, passing-iff, passing-small}
 use Rattle.theory.proofs.Decide.{ruleAt-numbered}

@@ -90,7 +90,7 @@ module _ (depth table : List ℕ) where
   unfoldable pub joinAsked : (asked x w : ℕ) → ℕ
   joinAsked asked x w = elim (hasb asked x) [ true ↦ union w (lookup depth table 0 x) | false ↦ w ]
 
-  -- what is reachable inside the root from the paths below n that are asked for
+  -- what is reachable inside the root from the paths asked for that have numbers below n
   unfoldable pub fromAsked : (asked n : ℕ) → ℕ
   fromAsked asked zero = 0
   fromAsked asked (suc x) = joinAsked asked x (fromAsked asked x)

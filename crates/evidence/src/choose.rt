@@ -6,10 +6,10 @@ ghost use Rattle.theory.specs.Least.{passing};
 ghost use Rattle.reachable.specs.Arrays.{parentOf, ruleOf, ruleList, Parents};
 ghost use Rattle.reachable.specs.Known.{Placed, Known};
 ghost use Rattle.evidence.specs.Words.{Ready, bothIn, joinIf, joinPassing, clashIn, clashBy, clashesIn, deadIn, sidesIn, straightIn, pairIn, askedIn, joinAsked, fromAsked, rootIn};
+use files::number::wide;
 use files::sets;
 use reachable::reach::reach;
 use reachable::steps::context;
-use reachable::steps::wide;
 
 // Whether l and r are both reachable from y inside a.
 fn both(depth: &[u8; 64], table: &[u64; 512], a: usize, l: usize, r: usize, y: usize) -> bool

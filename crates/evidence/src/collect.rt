@@ -1,29 +1,25 @@
-// Evidence collected in numbers, and whether there is any.
+// Evidence collected in numbers: direct, dead and pair, and the evidence for a question answered yes.
 ghost use Prim.Native.Nat.{_≤_, _<_};
 ghost use mathlib.Core.Path.{_≡_};
-ghost use mathlib.Core.Bool.{true, false};
+ghost use mathlib.Core.Bool.{true};
 ghost use mathlib.Core.List.{_++_};
 ghost use Rattle.documents.specs.Paths.{contextOf};
 ghost use Rattle.theory.specs.Search.{writtenWalk};
-ghost use Rattle.theory.specs.Decide.{isDead, isPair, rootb, rootFirst, rootSecond};
-ghost use Rattle.theory.specs.Evidence.{walkNumbers, impliesb, excludesb, yesb, consistentb, directNumbers, deadNumbersBy, deadNumbers, pairNumbers, implicationNumbers, absenceNumbers, evidenceNumbers, inconsistentNumbers};
+ghost use Rattle.theory.specs.Decide.{isDead, isPair};
+ghost use Rattle.theory.specs.Evidence.{walkNumbers, impliesb, excludesb, yesb, directNumbers, deadNumbersBy, deadNumbers, pairNumbers, implicationNumbers, absenceNumbers, evidenceNumbers};
 ghost use Rattle.reachable.specs.Arrays.{parentOf, ruleList, Sound};
-ghost use Rattle.reachable.specs.Known.{Placed};
 ghost use Rattle.evidence.specs.Layers.{clashNumbers, endNumbers, leastPairNumbers, Stored};
-ghost use Rattle.evidence.specs.Words.{Ready, directIn, deadAskedIn, Decided};
+ghost use Rattle.evidence.specs.Words.{Decided};
 use crate::choose::clash_rule;
 use crate::choose::clashes_from;
-use crate::choose::dead_paths;
 use crate::choose::is_dead;
 use crate::choose::pair_rule;
 use crate::choose::pair_side;
-use crate::choose::reacher;
-use crate::choose::root_rule;
+use crate::decide::is_direct;
 use crate::seek::put_walk;
+use files::number::wide;
 use files::sets;
-use reachable::reach::reach;
 use reachable::steps::context;
-use reachable::steps::wide;
 
 // Direct evidence stored from `start` on; the place after it.
 fn put_direct(
@@ -192,7 +188,7 @@ fn put_dead_by(
 }
 
 // The evidence that p is dead, stored from `start` on; the place after it.
-fn put_dead(
+pub(crate) fn put_dead(
     parent: &[u8; 64],
     kind: &[u8; 256],
     left: &[u8; 256],
@@ -282,7 +278,7 @@ fn put_ends(
 }
 
 // The evidence by rule x and its side that p and q are excluded, stored from `start` on; the place after it.
-fn put_pair(
+pub(crate) fn put_pair(
     parent: &[u8; 64],
     kind: &[u8; 256],
     left: &[u8; 256],
@@ -318,22 +314,6 @@ fn put_pair(
         numbers,
         start + 5,
     )
-}
-
-// Whether q is reachable from p inside their context.
-fn is_direct(
-    parent: &[u8; 64],
-    count: usize,
-    depth: &[u8; 64],
-    table: &[u64; 512],
-    p: usize,
-    q: usize,
-) -> bool
-    requires { ⌜ Ready (now parent) (now depth) count p q ⌝ }
-    ensures { λ t. ⌜ t ≡ directIn (now (depth .entry)) (now (table .entry)) (now (parent .entry)) p q ⌝ }
-{
-    let c = context(parent, p, q);
-    sets::has(reach(depth, table, c, p), q)
 }
 
 // The evidence for an implication, stored from `start` on; the place after it.
@@ -624,286 +604,4 @@ pub fn put_evidence(
         numbers,
         0,
     )
-}
-
-// The evidence for the pair by rule x, an absence at the root that excludes two paths asked for; the place after it.
-fn put_root_pair(
-    parent: &[u8; 64],
-    kind: &[u8; 256],
-    left: &[u8; 256],
-    right: &[u8; 256],
-    count: usize,
-    many: usize,
-    depth: &[u8; 64],
-    table: &[u64; 512],
-    clash: u64,
-    asked: u64,
-    x: usize,
-    numbers: &mut [u32; 400],
-    start: usize,
-) -> usize
-    requires { ⌜ Decided (now parent) (now kind) (now left) (now right) count many (now depth) (now table) clash × (x < many) × (rootb (parentOf (now parent)) (ruleList (now kind) (now left) (now right) many) count asked x ≡ true) × (start ≤ 200) ⌝ }
-    ensures { λ n. ⌜ Stored (pairNumbers (parentOf (now (parent .entry))) (ruleList (now (kind .entry)) (now (left .entry)) (now (right .entry)) many) count (rootFirst (parentOf (now (parent .entry))) (ruleList (now (kind .entry)) (now (left .entry)) (now (right .entry)) many) count asked x) (rootSecond (parentOf (now (parent .entry))) (ruleList (now (kind .entry)) (now (left .entry)) (now (right .entry)) many) count asked x) x 0) 135 (now (numbers .entry)) start (now (numbers .exit)) n ⌝ }
-{
-    let p = reacher(
-        parent,
-        kind,
-        left,
-        right,
-        count,
-        many,
-        depth,
-        table,
-        asked,
-        wide(left[x]),
-    );
-    let q = reacher(
-        parent,
-        kind,
-        left,
-        right,
-        count,
-        many,
-        depth,
-        table,
-        asked,
-        wide(right[x]),
-    );
-    put_pair(
-        parent,
-        kind,
-        left,
-        right,
-        count,
-        many,
-        p,
-        q,
-        x,
-        0,
-        numbers,
-        start,
-    )
-}
-
-// The dead paths that are asked for.
-fn dead_asked(depth: &[u8; 64], table: &[u64; 512], clash: u64, count: usize, asked: u64) -> u64
-    requires { ⌜ (count ≤ 64) × Placed (now depth) 0 0 ⌝ }
-    ensures { λ t. ⌜ t ≡ deadAskedIn (now (depth .entry)) (now (table .entry)) clash count asked ⌝ }
-{
-    sets::common(dead_paths(depth, table, clash, count), asked)
-}
-
-// The evidence that no document holds all the paths asked for, stored at the start; how many numbers it is.
-pub fn put_inconsistent(
-    parent: &[u8; 64],
-    kind: &[u8; 256],
-    left: &[u8; 256],
-    right: &[u8; 256],
-    count: usize,
-    many: usize,
-    depth: &[u8; 64],
-    table: &[u64; 512],
-    clash: u64,
-    asked: u64,
-    numbers: &mut [u32; 400],
-) -> usize
-    requires { ⌜ Decided (now parent) (now kind) (now left) (now right) count many (now depth) (now table) clash × (consistentb (parentOf (now parent)) (ruleList (now kind) (now left) (now right) many) count asked ≡ false) ⌝ }
-    ensures { λ n. ⌜ Stored (inconsistentNumbers (parentOf (now (parent .entry))) (ruleList (now (kind .entry)) (now (left .entry)) (now (right .entry)) many) count asked) 199 (now (numbers .entry)) 0 (now (numbers .exit)) n ⌝ }
-{
-    let x = root_rule(parent, kind, left, right, count, many, depth, table, asked);
-    if x < many {
-        return put_root_pair(
-            parent,
-            kind,
-            left,
-            right,
-            count,
-            many,
-            depth,
-            table,
-            clash,
-            asked,
-            x,
-            numbers,
-            0,
-        );
-    }
-    let p = sets::lowest(dead_asked(depth, table, clash, count, asked));
-    put_dead(
-        parent,
-        kind,
-        left,
-        right,
-        count,
-        many,
-        depth,
-        table,
-        clash,
-        p,
-        numbers,
-        0,
-    )
-}
-
-// Whether an implication is answered yes: direct, or p is dead.
-pub fn implies(
-    parent: &[u8; 64],
-    kind: &[u8; 256],
-    left: &[u8; 256],
-    right: &[u8; 256],
-    count: usize,
-    many: usize,
-    depth: &[u8; 64],
-    table: &[u64; 512],
-    clash: u64,
-    p: usize,
-    q: usize,
-) -> bool
-    requires { ⌜ Decided (now parent) (now kind) (now left) (now right) count many (now depth) (now table) clash × (p < count) × (q < count) ⌝ }
-    ensures { λ t. ⌜ t ≡ impliesb (parentOf (now (parent .entry))) (ruleList (now (kind .entry)) (now (left .entry)) (now (right .entry)) many) count p q ⌝ }
-{
-    if is_direct(parent, count, depth, table, p, q) {
-        return true;
-    }
-    is_dead(depth, table, clash, p)
-}
-
-// Whether an absence is answered yes: p is dead, q is dead, or a rule excludes them.
-fn excludes(
-    parent: &[u8; 64],
-    kind: &[u8; 256],
-    left: &[u8; 256],
-    right: &[u8; 256],
-    count: usize,
-    many: usize,
-    depth: &[u8; 64],
-    table: &[u64; 512],
-    clash: u64,
-    p: usize,
-    q: usize,
-) -> bool
-    requires { ⌜ Decided (now parent) (now kind) (now left) (now right) count many (now depth) (now table) clash × (p < count) × (q < count) ⌝ }
-    ensures { λ t. ⌜ t ≡ excludesb (parentOf (now (parent .entry))) (ruleList (now (kind .entry)) (now (left .entry)) (now (right .entry)) many) count p q ⌝ }
-{
-    if is_dead(depth, table, clash, p) {
-        return true;
-    }
-    if is_dead(depth, table, clash, q) {
-        return true;
-    }
-    let c = context(parent, p, q);
-    pair_rule(
-        parent,
-        kind,
-        left,
-        right,
-        count,
-        many,
-        depth,
-        table,
-        c,
-        p,
-        q,
-    )
-        < many
-}
-
-// Whether a question is answered yes.
-pub fn yes(
-    parent: &[u8; 64],
-    kind: &[u8; 256],
-    left: &[u8; 256],
-    right: &[u8; 256],
-    count: usize,
-    many: usize,
-    depth: &[u8; 64],
-    table: &[u64; 512],
-    clash: u64,
-    k: u8,
-    p: usize,
-    q: usize,
-) -> bool
-    requires { ⌜ Decided (now parent) (now kind) (now left) (now right) count many (now depth) (now table) clash × (p < count) × (q < count) ⌝ }
-    ensures { λ t. ⌜ t ≡ yesb (parentOf (now (parent .entry))) (ruleList (now (kind .entry)) (now (left .entry)) (now (right .entry)) many) count k p q ⌝ }
-{
-    if k == 1 {
-        return implies(
-            parent,
-            kind,
-            left,
-            right,
-            count,
-            many,
-            depth,
-            table,
-            clash,
-            p,
-            q,
-        );
-    }
-    if k == 2 {
-        return excludes(
-            parent,
-            kind,
-            left,
-            right,
-            count,
-            many,
-            depth,
-            table,
-            clash,
-            p,
-            q,
-        );
-    }
-    if implies(
-        parent,
-        kind,
-        left,
-        right,
-        count,
-        many,
-        depth,
-        table,
-        clash,
-        p,
-        q,
-    ) {
-        return implies(
-            parent,
-            kind,
-            left,
-            right,
-            count,
-            many,
-            depth,
-            table,
-            clash,
-            q,
-            p,
-        );
-    }
-    false
-}
-
-// Whether some document that obeys the rules holds all the paths asked for.
-pub fn consistent(
-    parent: &[u8; 64],
-    kind: &[u8; 256],
-    left: &[u8; 256],
-    right: &[u8; 256],
-    count: usize,
-    many: usize,
-    depth: &[u8; 64],
-    table: &[u64; 512],
-    clash: u64,
-    asked: u64,
-) -> bool
-    requires { ⌜ Decided (now parent) (now kind) (now left) (now right) count many (now depth) (now table) clash ⌝ }
-    ensures { λ t. ⌜ t ≡ consistentb (parentOf (now (parent .entry))) (ruleList (now (kind .entry)) (now (left .entry)) (now (right .entry)) many) count asked ⌝ }
-{
-    if root_rule(parent, kind, left, right, count, many, depth, table, asked) < many {
-        return false;
-    }
-    dead_asked(depth, table, clash, count, asked) == 0
 }

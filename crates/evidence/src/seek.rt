@@ -11,12 +11,12 @@ ghost use Rattle.theory.specs.Search.{ruleMove, leastMove, forward, writtenWalk
 ghost use Rattle.theory.specs.Evidence.{walkNumbers};
 ghost use Rattle.reachable.specs.Arrays.{parentOf, ruleOf, ruleList, Sound};
 ghost use Rattle.evidence.specs.Layers.{turnOf, MoveIs, nearerOf, Sought, Stored};
+use files::number::wide;
 use files::sets;
 use reachable::steps::alone;
 use reachable::steps::one_step;
 use reachable::steps::parent_of;
 use reachable::steps::subtree;
-use reachable::steps::wide;
 
 // A step's code and the path to which it leads.
 struct Move {

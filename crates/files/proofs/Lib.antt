@@ -1,4 +1,4 @@
--- The crate's laws.
+-- The laws of numbers, formats, rule tables, rule files and sets of paths.
 pub mod Collect
 pub mod Depths
 pub mod FileParts

@@ -1,3 +1,4 @@
+-- The definitions of numbers, formats, rule tables, rule files and sets of paths.
 pub mod Format
 pub mod Number
 pub mod Reading

@@ -106,11 +106,12 @@ afterCount count = want any (λ root. afterRoot count root)
 unfoldable pub ruleFile : Format RuleSet
 ruleFile = want (between 1 65 3) (λ count. afterCount count)
 
--- the numbers of paths, and of rules, one after the other
+-- the numbers of paths, one after the other: of each its parent and its label
 unfoldable pub pathNumbers : List Path → List ℕ
 pathNumbers [] = []
 pathNumbers (p ∷ ps) = p .parent ∷ p .label ∷ pathNumbers ps
 
+-- the numbers of rules, one after the other: of each its kind, its left and its right path
 unfoldable pub ruleNumbers : List Rule → List ℕ
 ruleNumbers [] = []
 ruleNumbers (r ∷ rs) = r .kind ∷ r .left ∷ r .right ∷ ruleNumbers rs

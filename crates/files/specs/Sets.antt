@@ -39,7 +39,7 @@ common a b = bitAnd a b
 unfoldable pub difference : ℕ → ℕ → ℕ
 difference a b = a - bitAnd a b
 
--- the paths below x, of the 64
+-- the paths with numbers below x, of the 64
 unfoldable pub belowAll : ℕ → ℕ
 belowAll x = 2 ^ min x 64 - 1
 
@@ -51,7 +51,7 @@ lowest w = trailingZeros 64 w
 unfoldable pub withoutLowest : ℕ → ℕ
 withoutLowest w = withoutPath w (lowest w)
 
--- how many paths of the set are below i
+-- how many paths of the set have numbers below i
 unfoldable pub sizeBelow : ℕ → ℕ → ℕ
 sizeBelow w zero = 0
 sizeBelow w (suc i) = sizeBelow w i + bit w i

@@ -15,7 +15,7 @@ use Rattle.files.specs.Rules.{rulesOf, pathsFrom, rulesFrom, ValidTable}
 use Rattle.files.specs.Sets.{common, difference, belowAll, members}
 use Rattle.files.specs.Table.{Path, Rule}
 
--- both tests hold
+-- whether both tests pass
 abbrev pub both : Bool → Bool → Bool
 both a b = cond a b false
 
@@ -51,11 +51,12 @@ rulesPass count (ru ∷ rest) = both (rulePasses count ru) (rulesPass count rest
 unfoldable pub requiredPass : ℕ → ℕ → Bool
 requiredPass count w = both (eqb (common w 1) 0) (eqb (difference w (belowAll count)) 0)
 
--- the part of the test that is about the paths, and the part that is about the rules
+-- the part of the test behind refusal 12 that is about the paths: their count, the root's label, then each path
 unfoldable pub pathsValid : List ℕ → List ℕ → ℕ → Bool
 pathsValid parent label count =
     both (eqb (between 1 65 3 count) 0) (both (ltb (getD label 0 0) limit) (pathsPass [] (pathsFrom parent label 1 (count - 1))))
 
+-- the part of it that is about the rules: their count, then each rule
 unfoldable pub rulesValid : List ℕ → List ℕ → List ℕ → ℕ → ℕ → Bool
 rulesValid kind left right many count = both (eqb (between 0 257 8 many) 0) (rulesPass count (rulesFrom kind left right 0 many))
 
@@ -84,14 +85,15 @@ put bytes out =
 unfoldable pub writeAnswer : Rules → List ℕ → Put
 writeAnswer t out = cond (tablePasses t) (put (fileOf (rulesOf t)) out) (record { answer = Refused 12 0; buffer = out })
 
--- the numbers of a table's file in three sections: path count, root label, parents and labels; required count and required
--- paths; rule count and rules
+-- the first section of the numbers of a table's file: path count, root label, parents and labels
 abbrev pub pathSection : List ℕ → List ℕ → ℕ → List ℕ
 pathSection parent label count = count ∷ getD label 0 0 ∷ pathNumbers (pathsFrom parent label 1 (count - 1))
 
+-- the second section: required count and required paths
 abbrev pub requiredSection : ℕ → List ℕ
 requiredSection required = length (members required) ∷ members required
 
+-- the third section: rule count and rules
 abbrev pub ruleSection : List ℕ → List ℕ → List ℕ → ℕ → List ℕ
 ruleSection kind left right many = many ∷ ruleNumbers (rulesFrom kind left right 0 many)
 

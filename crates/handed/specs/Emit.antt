@@ -73,7 +73,7 @@ placed whole rows (c ∷ rest) at places = placed whole rows rest (at + partsOn 
 unfoldable pub numberIn : (whole : ℕ) (rows places : List ℕ) (k g : ℕ) → ℕ
 numberIn whole rows places k g = getD places k 0 + (bit whole k + sizeBelow (getD rows k 0) g)
 
--- it as a list
+-- that number as a list of one
 unfoldable pub oneNumber : (whole : ℕ) (rows places : List ℕ) (k g : ℕ) → List ℕ
 oneNumber whole rows places k g = numberIn whole rows places k g ∷ []
 

@@ -7,9 +7,9 @@ ghost use Rattle.reachable.specs.Arrays.{parentOf, Parents};
 ghost use Rattle.reachable.specs.Known.{DepthsIn};
 ghost use Rattle.theory.specs.Handed.{partsOn, childPaths, pathOrder};
 ghost use Rattle.handed.specs.Emit.{withIf, layerIn, partsIn, placed, numberIn};
+use files::number::wide;
 use files::sets;
 use reachable::steps::parent_of;
-use reachable::steps::wide;
 
 // 1 if path x is in the set, else 0.
 pub(crate) fn bit_of(w: u64, x: usize) -> usize

@@ -49,21 +49,13 @@ module _ (stage : Stage) (next part left x : ℕ) where
   unfolding placeAfter
   after-path e = rw e
 
-  pub after-none : (r : Place) → stage ≡ Children → x ≡ 0 → r ≡ nextPart next part → r ≡ placeAfter stage next part left x
+  pub after-children : (r : Place) → r ≡ placeAfter Children next part 0 x → stage ≡ Children → r ≡ placeAfter stage next part left x
   unfolding placeAfter
-  after-none r e f g = rw (e, eq-eqb x 0 f) g
+  after-children r f e = rw e f
 
-  pub after-some : stage ≡ Children → (x ≡ 0 → ⊥) → _≡_ {A = Place} (record { at = next; stage = Child; part = part; left = x }) (placeAfter stage next part left x)
+  pub after-child : (r : Place) → r ≡ placeAfter Child next part left 0 → stage ≡ Child → r ≡ placeAfter stage next part left x
   unfolding placeAfter
-  after-some e f = rw (e, ne-eqb x 0 f)
-
-  pub after-last : (r : Place) → stage ≡ Child → left ≤ 1 → r ≡ nextPart next part → r ≡ placeAfter stage next part left x
-  unfolding placeAfter
-  after-last r e f g = rw (e, le-leb left 1 f) g
-
-  pub after-child : stage ≡ Child → 1 < left → _≡_ {A = Place} (record { at = next; stage = Child; part = part; left = left - 1 }) (placeAfter stage next part left x)
-  unfolding placeAfter
-  after-child e f = rw (e, lt-leb left 1 f)
+  after-child r f e = rw e f
 
   pub after-first : stage ≡ First → _≡_ {A = Place} (record { at = next; stage = More; part = 0; left = 0 }) (placeAfter stage next part left x)
   unfolding placeAfter
@@ -73,7 +65,31 @@ module _ (stage : Stage) (next part left x : ℕ) where
   unfolding placeAfter
   after-more e = rw e
 
-pub ruleset after-laws = (after-count, after-path, after-none, after-some, after-last, after-child, after-first, after-more)
+pub ruleset after-laws = (after-count, after-path, after-children, after-child, after-first, after-more)
+
+-- the place after a part's child count x
+module _ (next part x : ℕ) where
+  pub count-none : (r : Place) → x ≡ 0 → r ≡ nextPart next part → r ≡ placeAfter Children next part 0 x
+  unfolding placeAfter
+  count-none r f g = rw (eq-eqb x 0 f) g
+
+  pub count-some : (x ≡ 0 → ⊥) → _≡_ {A = Place} (record { at = next; stage = Child; part = part; left = x }) (placeAfter Children next part 0 x)
+  unfolding placeAfter
+  count-some f = rw (ne-eqb x 0 f)
+
+pub ruleset count-laws = (count-none, count-some)
+
+-- the place after a child
+module _ (next part left : ℕ) where
+  pub child-last : (r : Place) → left ≤ 1 → r ≡ nextPart next part → r ≡ placeAfter Child next part left 0
+  unfolding placeAfter
+  child-last r f g = rw (le-leb left 1 f) g
+
+  pub child-more : 1 < left → _≡_ {A = Place} (record { at = next; stage = Child; part = part; left = left - 1 }) (placeAfter Child next part left 0)
+  unfolding placeAfter
+  child-more f = rw (lt-leb left 1 f)
+
+pub ruleset child-laws = (child-last, child-more)
 
 -- the next number stands after the one that was read
 pub after-at : (stage : Stage) (next part left x : ℕ) → placeAfter stage next part left x .at ≡ next

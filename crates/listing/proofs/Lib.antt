@@ -1,4 +1,4 @@
--- The crate's laws.
+-- The laws of digits, lines and blocks of the listing.
 pub mod Blocks
 pub mod Digits
 pub mod Laying

@@ -16,13 +16,15 @@ use Rattle.listing.specs.declared.lay.Stage.the-variants.{Count, Path, C
 use Rattle.listing.specs.declared.lay.Laid.{Laid}
 use Rattle.listing.specs.Text.{digits, spaced, feed, Stored}
 
--- the words of the three forms: consistent, inconsistent, refused
+-- the word `consistent`
 unfoldable pub consistent : List ℕ
 consistent = 99 ∷ 111 ∷ 110 ∷ 115 ∷ 105 ∷ 115 ∷ 116 ∷ 101 ∷ 110 ∷ 116 ∷ []
 
+-- the word `inconsistent`
 unfoldable pub inconsistent : List ℕ
 inconsistent = 105 ∷ 110 ∷ 99 ∷ 111 ∷ 110 ∷ 115 ∷ 105 ∷ 115 ∷ 116 ∷ 101 ∷ 110 ∷ 116 ∷ []
 
+-- the word `refused`
 unfoldable pub refusedWord : List ℕ
 refusedWord = 114 ∷ 101 ∷ 102 ∷ 117 ∷ 115 ∷ 101 ∷ 100 ∷ []
 
@@ -75,10 +77,11 @@ unfoldable pub textFrom : Place → List ℕ → List ℕ
 textFrom p [] = []
 textFrom p (x ∷ ns) = pieceText (p .stage) (p .part) (p .left) (isEnd ns) x ++ textFrom (placeAfter (p .stage) 0 (p .part) (p .left) x) ns
 
--- where a document and where evidence begins
+-- where the text of a document begins
 abbrev pub documentStart : Place
 documentStart = record { at = 0; stage = Count; part = 0; left = 0 }
 
+-- where the text of evidence begins
 abbrev pub evidenceStart : Place
 evidenceStart = record { at = 0; stage = First; part = 0; left = 0 }
 

@@ -173,6 +173,36 @@ fn next_part(next: usize, part: u64) -> Place
     }
 }
 
+// The place after a part's child count x.
+fn after_count(next: usize, part: u64, x: u64) -> Place
+    ensures { λ r. ⌜ r ≡ placeAfter Stage.Children next part 0 x ⌝ }
+{
+    if x == 0 {
+        return next_part(next, part);
+    }
+    Place {
+        at: next,
+        stage: Stage::Child,
+        part,
+        left: x,
+    }
+}
+
+// The place after a child, the first of `left` that were left.
+fn after_child(next: usize, part: u64, left: u64) -> Place
+    ensures { λ r. ⌜ r ≡ placeAfter Stage.Child next part left 0 ⌝ }
+{
+    if left <= 1 {
+        return next_part(next, part);
+    }
+    Place {
+        at: next,
+        stage: Stage::Child,
+        part,
+        left: left - 1,
+    }
+}
+
 // The place after a number x, by what it is; the next number stands at `next`.
 fn place_after(stage: Stage, next: usize, part: u64, left: u64, x: u64) -> Place
     ensures { λ r. ⌜ r ≡ placeAfter stage next part left x ⌝ }
@@ -190,28 +220,8 @@ fn place_after(stage: Stage, next: usize, part: u64, left: u64, x: u64) -> Place
             part,
             left: 0,
         },
-        Stage::Children => {
-            if x == 0 {
-                return next_part(next, part);
-            }
-            Place {
-                at: next,
-                stage: Stage::Child,
-                part,
-                left: x,
-            }
-        }
-        Stage::Child => {
-            if left <= 1 {
-                return next_part(next, part);
-            }
-            Place {
-                at: next,
-                stage: Stage::Child,
-                part,
-                left: left - 1,
-            }
-        }
+        Stage::Children => after_count(next, part, x),
+        Stage::Child => after_child(next, part, left),
         Stage::First => Place {
             at: next,
             stage: Stage::More,

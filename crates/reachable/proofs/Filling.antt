@@ -12,8 +12,8 @@ use lib.Dec.{lit<}
 use Rattle.files.specs.Sets.{Has, hasb}
 use Rattle.files.proofs.Tables.{rules-length}
 use Rattle.files.proofs.SetBits.{same-sets, not-has, bit-of-zero, hasb-true, hasb-false, hasb-has, hasb-absent, bit-absent}
-use Rattle.documents.specs.Paths.{Below, same, up, StrictlyBelow, Descending, depthOf}
-use Rattle.documents.proofs.Paths.{below-le, below-dec, below-strictly, below-comparable, depth-root, depth-child, depth-strictly}
+use Rattle.documents.specs.Paths.{Below, same, up, Descending, depthOf}
+use Rattle.documents.proofs.Paths.{below-le, below-dec, depth-root, depth-child, prefix-depth, below-refl}
 use Rattle.theory.specs.Walk.{Reach, climb}
 use Rattle.theory.specs.Reachable.{Fits, alone, reachable}
 use Rattle.reachable.specs.Arrays.{parentOf, ruleList, Parents, Sound, settled}
@@ -60,23 +60,6 @@ depths-end parent depth count x inv h k = let e : x ≡ count = omega arith in r
 pub ruleset depth-laws = (depths-start, depth-fits, depths-more, depths-end)
 
 -- ---- what a word has
-
-module _ {parent : ℕ → ℕ} (desc : Descending parent) where
-  -- of two paths, one below the other, at the same depth
-  level-same : {a b : ℕ} → Below parent a b → depthOf parent a ≡ depthOf parent b → a ≡ b
-  level-same {a} {b} h e = pick (below-strictly desc h)
-    where
-      pick : (a ≡ b) ⊎ StrictlyBelow parent a b → a ≡ b
-      pick (inl i) = i
-      pick (inr s) = absurd (omega (arith, depth-strictly desc s))
-
-  -- two prefixes of a path at the same depth
-  prefix-same : {a b x : ℕ} → Below parent a x → Below parent b x → depthOf parent a ≡ depthOf parent b → a ≡ b
-  prefix-same {a} {b} h k e = pick (below-comparable h k)
-    where
-      pick : Below parent a b ⊎ Below parent b a → a ≡ b
-      pick (inl i) = level-same i e
-      pick (inr i) = sym (level-same i (sym e))
 
 module _ {parent kind left right : List ℕ} {count many : ℕ} (sound : Sound parent kind left right count many) where
   desc : Descending (parentOf parent)
@@ -252,7 +235,7 @@ module _ (parent kind left right : List ℕ) (count many : ℕ) where
             let some = depth-some (parentOf parent) (now .sound .parents .descending) a in
             let p : x ≡ y = omega (arith, fill-high, fill-low, at, top, some) in
             let q : depthOf (parentOf parent) c ≡ depthOf (parentOf parent) a = omega (arith, fill-high, fill-low, at, now .level, top, some) in
-            let r : c ≡ a = prefix-same (now .sound .parents .descending) (rw p at below) b q in
+            let r : c ≡ a = prefix-depth (now .sound .parents .descending) (rw p at below) b q in
             rw (j, stored, ← p, ← r) value
         pick a y b l k (no n) = getD-set-other table i (y * 8 + (depthOf (parentOf parent) a - 1)) v 0 n ∙ now .filled .done a y b l (before a y k n)
 
@@ -276,7 +259,7 @@ module _ (parent kind left right : List ℕ) (count many : ℕ) where
       other a x d w h k n e (full c b l is) =
           hasb-absent w a (bit-absent w a (λ (m : Has w a).
           let r = reached-iff sound c x (omega (arith, below-le (sound .parents .descending) b)) k a .0 (rw is at m) in
-          let s : c ≡ a = level-same (sound .parents .descending) (reach-end r) (l ∙ sym e) in
+          let s : c ≡ a = prefix-depth (sound .parents .descending) (reach-end r) (below-refl _) (l ∙ sym e) in
           n (rw s at b)))
 
       pick : (a x : ℕ) → a < count → x < count → Dec (Below (parentOf parent) a x)

@@ -1,20 +1,20 @@
 -- Laws of the steps that the code takes on words: contexts, subtrees, passes and what they settle at.
-use Prim.Native.Nat.{ℕ, zero, suc, _+_, _-_, _^_, _≤_, _<_}
-use mathlib.Core.Path.{_≡_, refl, sym, ap, _∙_, subst}
-use mathlib.Core.Logic.{_⊎_, inl, inr}
+use Prim.Native.Nat.{ℕ, zero, suc, _+_, _-_, _%_, _^_, _≤_, _<_}
+use mathlib.Core.Path.{_≡_, refl, sym, ap, ap₂, _∙_, subst}
 use mathlib.Core.Bool.{Bool, true, false}
 use mathlib.Core.List.{List}
 use native.Mathlib.Omega.{arith}
 use native.Mathlib.Nat.{le-trans}
 use native.Mathlib.Numerals.{add-one}
-use lib.Dec.{eqb}
+use lib.Dec.{eqb, ltb}
 use lib.ListN.{getD}
-use borrow.Author.Tests.{eq-eqb, ne-eqb, eqb-false}
+use borrow.Author.Tests.{eq-eqb, ne-eqb, eqb-false, lt-ltb}
 use Rattle.files.specs.Rules.{rulesFrom}
 use Rattle.files.specs.Sets.{hasb, withPath}
 use Rattle.files.proofs.Collect.{rules-step}
-use Rattle.documents.specs.Paths.{Below, up, Descending, Context, contextOf}
-use Rattle.documents.proofs.Paths.{below-step, below-le, parent-le, contextOf-context, context-is, contextOf-self, contextOf-sym}
+use Rattle.documents.specs.Paths.{Descending, meet, contextOf}
+use Rattle.documents.specs.Reading.{parentAt}
+use Rattle.documents.proofs.Paths.{below-le, parent-le, contextOf-context}
 use Rattle.theory.specs.Reachable.{onward, backward, tail, tip, foot, head, goesAlong, goesAgainst, joinChildren, subtree, carry, byRule, byRules, byClimbs, oneStep, settle, alone}
 use Rattle.reachable.specs.Arrays.{parentOf, ruleOf, ruleList, joinChild, wayOf, climbed, settled}
 use Rattle.theory.proofs.OneStep.{rules-join, climbs-join}
@@ -32,37 +32,33 @@ module _ (parent : List ℕ) (x r : ℕ) (is : r ≡ getD parent x 0) where
 
 pub ruleset parent-laws = (parent-is, parent-low)
 
-module _ (parent : ℕ → ℕ) (a b : ℕ) (desc : Descending parent) where
-  -- of two unequal paths the greater number climbs
-  context-climb : a < b → contextOf parent a b ≡ contextOf parent a (parent b)
-  context-climb h = context-is desc (record { left = k .left; right = up (k .right); longest = λ d l r. longest d l (below-step r) })
-    where
-      k : Context parent a (parent b) (contextOf parent a (parent b))
-      k = contextOf-context desc a (parent b)
+module _ (parent : List ℕ) (desc : Descending (parentOf parent)) where
+  -- the checker of documents reads the same parents of the 64 paths
+  at-same : (x : ℕ) → x < 64 → parentAt parent x ≡ parentOf parent x
+  unfolding parentAt parentOf
+  at-same x h = rw (lt-ltb x 64 h) refl
 
-      longest : (d : ℕ) → Below parent d a → (d ≡ b) ⊎ Below parent d (parent b) → Below parent d (contextOf parent a (parent b))
-      longest d l (inl e) = absurd (omega (arith, below-le desc l))
-      longest d l (inr r) = k .longest d l r
+  meet-same : (fuel p q : ℕ) → p < 64 → q < 64 → meet (parentAt parent) fuel p q ≡ meet (parentOf parent) fuel p q
+  unfolding meet
+  meet-same zero p q h k = refl
+  meet-same (suc fuel) p q h k =
+      ap₂ (λ (u v : ℕ). elim (eqb p q) [ true ↦ p | false ↦ elim (ltb p q) [ true ↦ u | false ↦ v ] ])
+      (ap (meet (parentAt parent) fuel p) (at-same q k) ∙ meet-same fuel p (parentOf parent q) h (omega (arith, parent-le desc q)))
+      (ap (λ (z : ℕ). meet (parentAt parent) fuel z q) (at-same p h)
+      ∙ meet-same fuel (parentOf parent p) q (omega (arith, parent-le desc p)) k)
 
-  module _ (w r : ℕ) where
-    pub context-right : contextOf parent a b ≡ w → a < b → r ≡ parent b → contextOf parent a r ≡ w
-    context-right inv h e = rw e (sym (context-climb h) ∙ inv)
+  module _ (p q r s : ℕ) (h : p < 64) (k : q < 64) (is : r ≡ contextOf (parentAt parent) (p % 256) (q % 256)) (wide : s ≡ r) where
+    pub context-same : s ≡ contextOf (parentOf parent) p q
+    unfolding contextOf
+    context-same =
+        let e : p % 256 ≡ p = omega arith in
+        let f : q % 256 ≡ q = omega arith in
+        wide ∙ is ∙ rw (e, f) (meet-same (p + q) p q h k)
 
-    pub context-right-less : a < b → r ≡ parent b → a + r < a + b
-    context-right-less h e = omega (arith, desc .smaller b (omega arith))
+    pub context-low : s ≤ p
+    context-low = omega (arith, context-same, below-le desc (contextOf-context desc p q .left))
 
-module _ (parent : ℕ → ℕ) (a b w r : ℕ) (desc : Descending parent) (h : b ≤ a) (other : a ≡ b → ⊥) (e : r ≡ parent a) where
-  pub context-left : contextOf parent a b ≡ w → contextOf parent r b ≡ w
-  context-left inv =
-      contextOf-sym desc r b ∙ context-right parent b a desc w r (contextOf-sym desc b a ∙ inv) (omega (arith, other)) e
-
-  pub context-left-less : r + b < a + b
-  context-left-less = omega (arith, desc .smaller a (omega (arith, other)), other)
-
-pub context-end : (parent : ℕ → ℕ) (a b w : ℕ) → Descending parent → contextOf parent a b ≡ w → a ≡ b → a ≡ w
-context-end parent a b w desc inv e = sym (contextOf-self desc a) ∙ ap (contextOf parent a) e ∙ inv
-
-pub ruleset context-laws = (context-right, context-right-less, context-left, context-left-less, context-end)
+pub ruleset context-laws = (context-same, context-low)
 
 -- ---- the paths below one
 

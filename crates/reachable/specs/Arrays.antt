@@ -29,7 +29,7 @@ pub record Parents (parent : List ℕ) (count : ℕ) : Type 0 where
   pub some : 0 < count
   pub few : count ≤ 64
 
--- what it says of all its arrays
+-- what a valid table says of all its arrays
 pub record Sound (parent kind left right : List ℕ) (count many : ℕ) : Type 0 where
   pub parents : Parents parent count
   pub fewRules : many ≤ 256

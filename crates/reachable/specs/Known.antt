@@ -10,7 +10,7 @@ use Rattle.documents.specs.Paths.{Below, depthOf}
 use Rattle.theory.specs.Reachable.{subtree, reachable}
 use Rattle.reachable.specs.Arrays.{parentOf, ruleList, Sound}
 
--- the array has the depths of the paths below n
+-- the array has the depths of the paths with numbers below n
 pub record DepthsIn (parent : List ℕ) (n : ℕ) (depth : List ℕ) : Type 0 where
   pub long : length depth ≡ 64
   pub each : (x : ℕ) → x < n → getD depth x 0 ≡ depthOf (parentOf parent) x
@@ -38,7 +38,7 @@ module _ (parent kind left right : List ℕ) (count many : ℕ) where
     empty : w ≡ 0 → Word x d w
     full : (c : ℕ) → Below (parentOf parent) c x → depthOf (parentOf parent) c ≡ suc d → w ≡ reached c x → Word x d w
 
-  -- the words inside paths below c are there, and of those inside c the words for paths below x
+  -- the words inside paths with numbers below c are there, and of those inside c the words for paths with numbers below x
   pub record Filled (c x : ℕ) (table : List ℕ) : Type 0 where
     pub long : length table ≡ 512
     pub words : (y d : ℕ) → y < count → d < 8 → Word y d (getD table (y * 8 + d) 0)

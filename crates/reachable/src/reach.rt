@@ -8,7 +8,7 @@ use crate::steps::alone;
 use crate::steps::parent_of;
 use crate::steps::settle;
 use crate::steps::subtree;
-use crate::steps::wide;
+use files::number::wide;
 use files::sets;
 
 // The depths of the paths: the root has depth 1, every other path one more than its parent.

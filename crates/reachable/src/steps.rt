@@ -5,13 +5,8 @@ ghost use mathlib.Core.Bool.{true};
 ghost use Rattle.documents.specs.Paths.{Descending, contextOf};
 ghost use Rattle.theory.specs.Reachable.{onward, subtree, carry, byRule, byRules, byClimbs, oneStep, alone};
 ghost use Rattle.reachable.specs.Arrays.{parentOf, ruleOf, ruleList, joinChild, climbed, wayOf, settled, Sound};
+use files::number::wide;
 use files::sets;
-
-pub fn wide(b: u8) -> usize
-    ensures { λ r. ⌜ (r ≡ b) × (r < 256) ⌝ }
-{
-    b as usize
-}
 
 // The parent of a path.
 pub fn parent_of(parent: &[u8; 64], x: usize) -> usize
@@ -21,21 +16,12 @@ pub fn parent_of(parent: &[u8; 64], x: usize) -> usize
     wide(parent[x])
 }
 
-// The context of two paths: of two unequal paths the greater number climbs.
+// The context of two paths.
 pub fn context(parent: &[u8; 64], p: usize, q: usize) -> usize
     requires { ⌜ Descending (parentOf (now parent)) × (p < 64) × (q < 64) ⌝ }
     ensures { λ r. ⌜ (r ≡ contextOf (parentOf (now (parent .entry))) p q) × (r ≤ p) ⌝ }
 {
-    let mut a = p;
-    let mut b = q;
-    while a != b {
-        if a < b {
-            b = parent_of(parent, b);
-        } else {
-            a = parent_of(parent, a);
-        }
-    }
-    a
+    wide(documents::context::context(parent, (p % 256) as u8, (q % 256) as u8))
 }
 
 // The set with path x too if its parent is in it.

@@ -17,7 +17,8 @@ use Rattle.files.proofs.TableTests.{passes-valid}
 use Rattle.documents.specs.Paths.{Descending, contextOf}
 use Rattle.reasoning.specs.declared.question.Reply.{Reply}
 use Rattle.reachable.specs.Arrays.{parentOf, ruleList}
-use Rattle.reasoning.specs.Calls.{askable, answerOf, parentsOf, AnswersQuestion}
+use Rattle.documents.specs.Judgement.{parentsOf}
+use Rattle.reasoning.specs.Calls.{askable, answerOf, AnswersQuestion}
 use Rattle.theory.specs.Decide.{clashing}
 use Rattle.handed.specs.Emit.{Writable}
 use Rattle.theory.specs.Evidence.{impliesb, yesb, evidenceNumbers}

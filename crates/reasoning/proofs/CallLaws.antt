@@ -6,7 +6,6 @@ use mathlib.Core.Bool.{true, false}
 use mathlib.Core.List.{List, [], _∷_, List·Memᴰ, List·Memᴰ·head, List·Memᴰ·tail}
 use native.Mathlib.Omega.{arith}
 use lib.Dec.{T}
-use lib.ListN.{length}
 use Rattle.files.specs.declared.rules.Rules.{Rules}
 use Rattle.files.specs.declared.write.Written.{Written}
 use Rattle.files.specs.Number.{limit, bytesOfAll}
@@ -16,21 +15,9 @@ use Rattle.files.specs.Writing.{tablePasses, put, wrapped, Puts}
 use Rattle.files.proofs.TableTests.{passes-valid}
 use Rattle.reasoning.specs.declared.consistency.Verdict.{Verdict}
 use Rattle.reasoning.specs.declared.question.Reply.{Reply}
-use Rattle.reachable.specs.Arrays.{parentOf, ruleList, Sound}
-use Rattle.reasoning.specs.Calls.{
-  parentsOf,
-  ruleListOf,
-  askedOf,
-  Answered,
-  answerOf,
-  documentBytes,
-  inconsistentBytes,
-  evidenceBytes,
-  askable,
-  counterStart,
-  DecidesConsistency,
-  AnswersQuestion,
-}
+use Rattle.reachable.specs.Arrays.{parentOf, ruleList}
+use Rattle.documents.specs.Judgement.{parentsOf}
+use Rattle.reasoning.specs.Calls.{ruleListOf, askedOf, Answered, answerOf, documentBytes, inconsistentBytes, evidenceBytes, askable, counterStart, DecidesConsistency, AnswersQuestion}
 use Rattle.theory.specs.Evidence.{consistentb, yesb, evidenceNumbers, inconsistentNumbers, Bounded}
 use Rattle.theory.specs.Handed.{Start, ReachWords, startConsistency, startNo, handedNumbers}
 use Rattle.theory.proofs.Agreeing.{numbers-agree}
@@ -46,7 +33,7 @@ use Rattle.theory.proofs.HandedRows.{Begins}
 use Rattle.theory.proofs.HandedQuestions.{begins-no}
 use Rattle.reasoning.proofs.Placed.{puts-answer}
 use Rattle.reasoning.proofs.QuestionJoins.{ask-invalid, ask-unasked, ask-yes, ask-no, askable-asked, yes-bounded, ask-answers}
-use Rattle.reasoning.proofs.TableArrays.{arrays-rules, arrays-parents, arrays-sound}
+use Rattle.reasoning.proofs.TableArrays.{arrays-rules, arrays-parents}
 use Rattle.reasoning.proofs.ValidFits.{table-fits, table-shallow}
 
 -- the rules as the arrays have them
@@ -57,20 +44,7 @@ arrayRules t = ruleList (t .kind) (t .left) (t .right) (t .rules)
 abbrev arrayStart : (t : Rules) (parent : List ℕ) (kind p q : ℕ) → Start
 arrayStart t parent = startNo (parentOf parent) (arrayRules t) (t .paths)
 
--- ---- the table that passed its test
-
-module _ (t : Rules) (word : t .required < 2 ^ 64) (passes : tablePasses t ≡ true) where
-  -- its arrays are sound
-  pub passes-sound : (parent : List ℕ) → parent ≡ parentsIn (t .parent) (t .paths)
-      → Sound parent (t .kind) (t .left) (t .right) (t .paths) (t .rules)
-  passes-sound parent lent = arrays-sound t (passes-valid t word .0 passes) parent lent
-
 -- ---- the document's and the evidence's numbers
-
--- the numbers of a document are at most 449, and it takes at most 65,536 bytes
-pub record FitsBuffer (numbers : List ℕ) : Type 0 where
-  pub small : (n : ℕ) → List·Memᴰ n numbers → n ≤ 449
-  pub short : length (bytesOfAll numbers) ≤ 65536
 
 module _ (t : Rules) (v : ValidTable t) {R : ℕ → ℕ → ℕ} (words : ReachWords (parentsOf t) (ruleListOf t) (t .paths) R) {goals : List ℕ}
     {start : Start} (begins : Begins (parentsOf t) (t .paths) goals start) where

@@ -1,6 +1,6 @@
 -- The calls: from a table that passed its test to what they promise.
 use Prim.Native.Nat.{ℕ, _+_, _^_, _<_, _≤_}
-use mathlib.Core.Path.{_≡_, refl, sym, ap, subst, _∙_}
+use mathlib.Core.Path.{_≡_, sym, ap, subst, _∙_}
 use mathlib.Core.Bool.{Bool, true, false, not}
 use borrow.Author.Tests.{not-true, not-false}
 use mathlib.Core.List.{List, _∷_}
@@ -9,16 +9,16 @@ use lib.ListN.{length, take, drop, replicate}
 use lib.Seq.{length-sets, sets-eq, take-at}
 use Rattle.files.specs.declared.rules.Rules.{Rules}
 use Rattle.files.specs.declared.write.Written.{Written}
-use Rattle.files.specs.declared.write.Written.the-variants.{Length, Refused}
+use Rattle.files.specs.declared.write.Written.the-variants.{Refused}
 use Rattle.files.specs.Number.{bytesOfAll}
 use Rattle.files.specs.Rules.{rulesOf, parentsIn, ValidTable}
 use Rattle.files.specs.Writing.{tablePasses, put, wrapped, Puts}
 use Rattle.files.specs.Sets.{withPath}
 use Rattle.files.proofs.TableTests.{passes-valid}
 use Rattle.reasoning.specs.declared.consistency.Verdict.{Verdict}
-use Rattle.reasoning.specs.declared.question.Reply.{Reply}
 use Rattle.reachable.specs.Arrays.{parentOf, ruleList, Parents, Sound}
-use Rattle.reasoning.specs.Calls.{parentsOf, answerOf, DecidesConsistency}
+use Rattle.documents.specs.Judgement.{parentsOf}
+use Rattle.reasoning.specs.Calls.{answerOf, DecidesConsistency}
 use Rattle.handed.specs.Emit.{Writable}
 use Rattle.theory.specs.Evidence.{consistentb, inconsistentNumbers}
 use Rattle.theory.specs.Decide.{clashing}
@@ -28,7 +28,8 @@ use Rattle.evidence.specs.Words.{Decided}
 use Rattle.theory.specs.Handed.{handedNumbers}
 use Rattle.reasoning.specs.Lent.{Passed, LentTable, Witnessed, Conflicting}
 use Rattle.handed.specs.Writer.{wordFor, startOf}
-use Rattle.reasoning.proofs.CallLaws.{consistency-refuses, consistency-hands, consistency-shows, passes-sound}
+use Rattle.reasoning.proofs.CallLaws.{consistency-refuses, consistency-hands, consistency-shows}
+use Rattle.reasoning.proofs.TableArrays.{arrays-sound}
 use Rattle.reasoning.proofs.ConsistencyJoins.{asked-begins}
 use Rattle.theory.proofs.HandedRows.{Begins}
 use Rattle.reasoning.proofs.TableArrays.{arrays-parents}
@@ -59,50 +60,11 @@ module _ (t : Rules) (word : t .required < 2 ^ 64) (parent depth table : List �
       (h .asked-is) p)
       g
 
--- ---- the answer by what was written
-
-module _ (w : Written) where
-  pub witnessed-length : {n : ℕ} → w ≡ Length n → Verdict.Consistent n ≡ answerOf Verdict.Consistent Verdict.Refused w
-  unfolding answerOf
-  witnessed-length e = rw e refl
-
-  pub witnessed-refused : {k at : ℕ} → w ≡ Refused k at → Verdict.Refused k at ≡ answerOf Verdict.Consistent Verdict.Refused w
-  unfolding answerOf
-  witnessed-refused e = rw e refl
-
-  pub shown-length : {n : ℕ} → w ≡ Length n → Verdict.Inconsistent n ≡ answerOf Verdict.Inconsistent Verdict.Refused w
-  unfolding answerOf
-  shown-length e = rw e refl
-
-  pub shown-refused : {k at : ℕ} → w ≡ Refused k at → Verdict.Refused k at ≡ answerOf Verdict.Inconsistent Verdict.Refused w
-  unfolding answerOf
-  shown-refused e = rw e refl
-
-  pub yes-length : {n : ℕ} → w ≡ Length n → Reply.Yes n ≡ answerOf Reply.Yes Reply.Refused w
-  unfolding answerOf
-  yes-length e = rw e refl
-
-  pub yes-refused : {k at : ℕ} → w ≡ Refused k at → Reply.Refused k at ≡ answerOf Reply.Yes Reply.Refused w
-  unfolding answerOf
-  yes-refused e = rw e refl
-
-  pub no-length : {n : ℕ} → w ≡ Length n → Reply.No n ≡ answerOf Reply.No Reply.Refused w
-  unfolding answerOf
-  no-length e = rw e refl
-
-  pub no-refused : {k at : ℕ} → w ≡ Refused k at → Reply.Refused k at ≡ answerOf Reply.No Reply.Refused w
-  unfolding answerOf
-  no-refused e = rw e refl
-
-pub ruleset verdict-laws = (witnessed-length, witnessed-refused, shown-length, shown-refused)
-
-pub ruleset reply-laws = (yes-length, yes-refused, no-length, no-refused)
-
 -- ---- a table that passed its test
 
 module _ (t : Rules) (word : t .required < 2 ^ 64) (parent : List ℕ) (h : Passed t parent) where
   pub passed-sound : Sound parent (t .kind) (t .left) (t .right) (t .paths) (t .rules)
-  passed-sound = passes-sound t word (h .passes) parent (h .lent)
+  passed-sound = arrays-sound t (passes-valid t word .0 (h .passes)) parent (h .lent)
 
   pub passed-parents : Parents parent (t .paths)
   passed-parents = passed-sound .parents

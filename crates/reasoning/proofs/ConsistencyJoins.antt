@@ -12,19 +12,8 @@ use Rattle.files.specs.Rules.{rulesOf, ValidTable}
 use Rattle.files.specs.Writing.{tablePasses, put}
 use Rattle.files.proofs.TableTests.{passes-valid}
 use Rattle.reasoning.specs.declared.consistency.Verdict.{Verdict}
-use Rattle.reasoning.specs.Calls.{
-  parentsOf,
-  ruleListOf,
-  askedOf,
-  Answered,
-  answered,
-  documentBytes,
-  inconsistentBytes,
-  consistencyAnswer,
-  HandsBack,
-  BringsEvidence,
-  DecidesConsistency,
-}
+use Rattle.documents.specs.Judgement.{parentsOf}
+use Rattle.reasoning.specs.Calls.{ruleListOf, askedOf, Answered, answered, documentBytes, inconsistentBytes, consistencyAnswer, HandsBack, BringsEvidence, DecidesConsistency}
 use Rattle.theory.specs.Decide.{askedIn}
 use Rattle.theory.specs.Evidence.{consistentb, inconsistentNumbers, ShowsInconsistent, WritesInconsistent, Bounded}
 use Rattle.theory.specs.Follows.{Witnesses, Consistent}

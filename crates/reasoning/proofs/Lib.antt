@@ -1,3 +1,4 @@
+-- The laws of the two calls: what is lent on, what is put, and what the answers mean.
 pub mod Asking
 pub mod CallLaws
 pub mod Calling

@@ -14,16 +14,8 @@ use Rattle.files.specs.Rules.{rulesOf, ValidTable}
 use Rattle.documents.specs.Tree.{Forest}
 use Rattle.reasoning.specs.declared.consistency.Verdict.{Verdict}
 use Rattle.reasoning.specs.declared.question.Reply.{Reply}
-use Rattle.reasoning.specs.Calls.{
-  parentsOf,
-  ruleListOf,
-  askable,
-  Follows,
-  Breaks,
-  questionOf,
-  DecidesConsistency,
-  AnswersQuestion,
-}
+use Rattle.documents.specs.Judgement.{parentsOf}
+use Rattle.reasoning.specs.Calls.{ruleListOf, askable, Follows, Breaks, questionOf, DecidesConsistency, AnswersQuestion}
 use Rattle.theory.specs.Follows.{Consistent}
 use Rattle.reasoning.proofs.ConsistencyJoins.{ConsistencyCase, consistency-case}
 use Rattle.reasoning.proofs.QuestionJoins.{QuestionCase, ask-case, breaks-follows}

@@ -8,6 +8,7 @@ use lib.ListN.{length, take, drop}
 use lib.Seq.{take-append-seam}
 use borrow.Author.Tests.{leb-true, leb-false}
 use Rattle.files.specs.declared.write.Written.{Written}
+use Rattle.files.specs.declared.write.Written.the-variants.{Length, Refused}
 use Rattle.files.specs.Writing.{put, Puts}
 use Rattle.reasoning.specs.Calls.{Answered, answerOf, answered}
 
@@ -41,3 +42,13 @@ module _ {A : Type 0} (done : ℕ → A) (refuse : ℕ → ℕ → A) (bytes out
     f ∙ ap (answerOf done refuse) (p .answer) ∙ sym (ap (λ (y : Answered A). y .answer) e),
     p .buffer ∙ sym (ap (λ (y : Answered A). y .buffer) e),
   )
+
+-- the answer by the cases of what putting the bytes answered
+module _ {A : Type 0} (done : ℕ → A) (refuse : ℕ → ℕ → A) (w : Written) where
+  pub answer-length : {n : ℕ} → w ≡ Length n → done n ≡ answerOf done refuse w
+  unfolding answerOf
+  answer-length e = rw e refl
+
+  pub answer-refused : {k at : ℕ} → w ≡ Refused k at → refuse k at ≡ answerOf done refuse w
+  unfolding answerOf
+  answer-refused e = rw e refl

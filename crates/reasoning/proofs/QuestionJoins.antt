@@ -16,23 +16,8 @@ use Rattle.files.specs.Writing.{tablePasses, put}
 use Rattle.files.proofs.TableTests.{passes-valid}
 use Rattle.documents.specs.Tree.{Forest}
 use Rattle.reasoning.specs.declared.question.Reply.{Reply}
-use Rattle.reasoning.specs.Calls.{
-  parentsOf,
-  ruleListOf,
-  Answered,
-  answered,
-  documentBytes,
-  evidenceBytes,
-  askable,
-  counterStart,
-  askAnswer,
-  HandsBack,
-  BringsEvidence,
-  Follows,
-  Breaks,
-  questionOf,
-  AnswersQuestion,
-}
+use Rattle.documents.specs.Judgement.{parentsOf}
+use Rattle.reasoning.specs.Calls.{ruleListOf, Answered, answered, documentBytes, evidenceBytes, askable, counterStart, askAnswer, HandsBack, BringsEvidence, Follows, Breaks, questionOf, AnswersQuestion}
 use Rattle.theory.specs.Evidence.{yesb, evidenceNumbers, Shows, Bounded}
 use Rattle.theory.proofs.Answers.{implies-every, excludes-every, together-every}
 use Rattle.theory.proofs.EvidenceSize.{evidence-bounded}

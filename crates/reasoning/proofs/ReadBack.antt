@@ -12,7 +12,8 @@ use Rattle.documents.specs.Tree.{Forest}
 use Rattle.documents.specs.PartList.{StandsFor}
 use Rattle.documents.proofs.ValidLists.{valid-read}
 use Rattle.documents.proofs.CheckingJoins.{few-paths, below-64}
-use Rattle.reasoning.specs.Calls.{parentsOf, ruleListOf, documentBytes, HandsBack}
+use Rattle.documents.specs.Judgement.{parentsOf}
+use Rattle.reasoning.specs.Calls.{ruleListOf, documentBytes, HandsBack}
 use Rattle.theory.specs.Evidence.{Bounded}
 use Rattle.theory.specs.Handed.{Start, handedEntries, handedNumbers}
 use Rattle.theory.specs.Reachable.{reachable}

@@ -11,7 +11,8 @@ use Rattle.files.proofs.Tables.{rules-length, parents-are}
 use Rattle.documents.specs.Paths.{Descending, depthOf}
 use Rattle.documents.proofs.CheckingJoins.{few-paths, descending}
 use Rattle.reachable.specs.Arrays.{parentOf, ruleList, Sound}
-use Rattle.reasoning.specs.Calls.{parentsOf, ruleListOf}
+use Rattle.documents.specs.Judgement.{parentsOf}
+use Rattle.reasoning.specs.Calls.{ruleListOf}
 use Rattle.theory.specs.Parts.{RulesIn}
 use Rattle.reasoning.proofs.ValidFits.{table-fits, table-shallow}
 

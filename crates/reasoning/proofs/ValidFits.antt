@@ -12,7 +12,8 @@ use Rattle.files.proofs.TableTests.{ascending-from}
 use Rattle.documents.specs.Paths.{depthOf}
 use Rattle.documents.proofs.Paths.{depth-root, depth-child}
 use Rattle.documents.proofs.CheckingJoins.{count-is, few-paths, descending}
-use Rattle.reasoning.specs.Calls.{parentsOf, ruleListOf, askedOf}
+use Rattle.documents.specs.Judgement.{parentsOf}
+use Rattle.reasoning.specs.Calls.{ruleListOf, askedOf}
 use Rattle.theory.specs.Decide.{askedIn}
 use Rattle.theory.specs.Reachable.{Fits}
 use Rattle.theory.specs.Required.{Needed}

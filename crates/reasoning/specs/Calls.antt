@@ -13,8 +13,9 @@ use Rattle.files.specs.Format.{got, runAll}
 use Rattle.files.specs.Number.{bytesOfAll}
 use Rattle.files.specs.Rules.{rulesOf, ValidTable}
 use Rattle.files.specs.Sets.{withPath}
-use Rattle.files.specs.Table.{Rule, parentIn}
+use Rattle.files.specs.Table.{Rule}
 use Rattle.files.specs.Writing.{tablePasses, Put, put}
+use Rattle.documents.specs.Judgement.{parentsOf}
 use Rattle.documents.specs.Tree.{Forest, Document}
 use Rattle.documents.specs.Obey.{ObeysRule, Obeys}
 use Rattle.documents.specs.PartList.{Entry, documentFile, StandsFor}
@@ -25,13 +26,11 @@ use Rattle.theory.specs.Evidence.{yesb, consistentb, evidenceNumbers, inconsist
 use Rattle.theory.specs.Follows.{Witnesses, Consistent}
 use Rattle.theory.specs.Handed.{Start, startConsistency, startNo, handedNumbers}
 
--- the parents, the rules and the required paths of a table, and the set of the required paths with the root
-abbrev pub parentsOf : Rules → ℕ → ℕ
-parentsOf t = parentIn (rulesOf t .paths)
-
+-- the rules of a table handed in
 abbrev pub ruleListOf : Rules → List Rule
 ruleListOf t = rulesOf t .rules
 
+-- the set of its required paths, and the root
 abbrev pub askedOf : Rules → ℕ
 askedOf t = withPath (t .required) 0
 
@@ -45,6 +44,7 @@ unfoldable pub answerOf : {A : Type 0} (done : ℕ → A) (refused : ℕ → ℕ
 answerOf done refused (Length n) = done n
 answerOf done refused (Refused k at) = refused k at
 
+-- that answer, with the buffer that putting the bytes left
 unfoldable pub answered : {A : Type 0} (done : ℕ → A) (refused : ℕ → ℕ → A) → Put → Answered A
 answered done refused p = record { answer = answerOf done refused (p .answer); buffer = p .buffer }
 

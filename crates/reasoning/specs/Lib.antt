@@ -1,2 +1,3 @@
+-- The definitions of the two calls, consistency and questions, and of what they lend on.
 pub mod Calls
 pub mod Lent

@@ -1,9 +1,10 @@
+// Whether rules are consistent with the required paths.
 ghost use mathlib.Core.Path.{_≡_};
 ghost use Rattle.reasoning.specs.Calls.{answerOf, DecidesConsistency};
 ghost use Rattle.reasoning.specs.Lent.{Passed, Witnessed, Conflicting};
 use evidence::choose::clashing;
-use evidence::collect::consistent;
-use evidence::collect::put_inconsistent;
+use evidence::conflict::put_inconsistent;
+use evidence::decide::consistent;
 use files::rules::Rules;
 use files::rules::parents;
 use files::sets;

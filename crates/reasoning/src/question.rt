@@ -1,10 +1,11 @@
+// Questions to the rules.
 ghost use mathlib.Core.Path.{_≡_};
 ghost use Rattle.reasoning.specs.Calls.{answerOf, askable, AnswersQuestion};
 ghost use Rattle.reasoning.specs.Lent.{Affirmed, Denied, Countered, PassedQuestion};
 use evidence::choose::clashing;
-use evidence::collect::implies;
 use evidence::collect::put_evidence;
-use evidence::collect::yes;
+use evidence::decide::implies;
+use evidence::decide::yes;
 use files::rules::Rules;
 use files::rules::parents;
 use files::sets;
@@ -96,27 +97,14 @@ fn put_yes(
     affirmed(put_numbers(&numbers[..n], out))
 }
 
-// A no: the counter-document that begins with the goals, whose context is `top`, is put into the buffer.
-fn put_counter(
-    rules: Rules,
-    parent: &[u8; 64],
-    depth: &[u8; 64],
-    table: &[u64; 512],
-    k: u8,
-    p: usize,
-    q: usize,
+// What a counter-document begins with: the goals of its part 0, and their context.
+struct Begins {
     goals: u64,
     top: usize,
-    out: &mut [u8],
-) -> Reply
-    requires { ⌜ Countered rules (now parent) (now depth) (now table) k p q goals top ⌝ }
-    ensures { λ r. ⌜ AnswersQuestion rules k p q (now (out .entry)) r (now (out .exit)) ⌝ }
-{
-    denied(write_document(parent, depth, table, rules.paths, goals, top, out))
 }
 
-// A no: the counter-document by the question's kind; of a co-occurrence it shows the first failing direction.
-fn put_no(
+// What the counter-document begins with, by the question's kind; of a co-occurrence it shows the first failing direction.
+fn counter(
     rules: Rules,
     parent: &[u8; 64],
     depth: &[u8; 64],
@@ -125,40 +113,19 @@ fn put_no(
     k: u8,
     p: usize,
     q: usize,
-    out: &mut [u8],
-) -> Reply
+) -> Begins
     requires { ⌜ Denied rules (now parent) (now depth) (now table) clash k p q ⌝ }
-    ensures { λ r. ⌜ AnswersQuestion rules k p q (now (out .entry)) r (now (out .exit)) ⌝ }
+    ensures { λ r. ⌜ Countered rules (now (parent .entry)) (now (depth .entry)) (now (table .entry)) k p q (r .goals) (r .top) ⌝ }
 {
     if k == 1 {
-        return put_counter(
-            rules,
-            parent,
-            depth,
-            table,
-            k,
-            p,
-            q,
-            sets::with(0, p),
-            p,
-            out,
-        );
+        let goals = sets::with(0, p);
+        return Begins { goals, top: p };
     }
     if k == 2 {
         let top = context(parent, p, q);
         let one = sets::with(0, q);
-        return put_counter(
-            rules,
-            parent,
-            depth,
-            table,
-            k,
-            p,
-            q,
-            sets::with(one, p),
-            top,
-            out,
-        );
+        let goals = sets::with(one, p);
+        return Begins { goals, top };
     }
     let kind = rules.kind;
     let left = rules.left;
@@ -176,31 +143,30 @@ fn put_no(
         p,
         q,
     ) {
-        return put_counter(
-            rules,
-            parent,
-            depth,
-            table,
-            k,
-            p,
-            q,
-            sets::with(0, q),
-            q,
-            out,
-        );
+        let goals = sets::with(0, q);
+        return Begins { goals, top: q };
     }
-    put_counter(
-        rules,
-        parent,
-        depth,
-        table,
-        k,
-        p,
-        q,
-        sets::with(0, p),
-        p,
-        out,
-    )
+    let goals = sets::with(0, p);
+    Begins { goals, top: p }
+}
+
+// A no: its counter-document is put into the buffer.
+fn put_no(
+    rules: Rules,
+    parent: &[u8; 64],
+    depth: &[u8; 64],
+    table: &[u64; 512],
+    clash: u64,
+    k: u8,
+    p: usize,
+    q: usize,
+    out: &mut [u8],
+) -> Reply
+    requires { ⌜ Denied rules (now parent) (now depth) (now table) clash k p q ⌝ }
+    ensures { λ r. ⌜ AnswersQuestion rules k p q (now (out .entry)) r (now (out .exit)) ⌝ }
+{
+    let b = counter(rules, parent, depth, table, clash, k, p, q);
+    denied(write_document(parent, depth, table, rules.paths, b.goals, b.top, out))
 }
 
 // The reply to a question that can be asked, of a table that passed its test.

@@ -6,7 +6,7 @@ use native.Mathlib.Omega.{arith}
 use Rattle.files.specs.Table.{Rule, Numbered}
 use Rattle.documents.specs.Paths.{Context, contextOf}
 use Rattle.documents.proofs.Paths.{below-le, contextOf-context, context-is}
-use Rattle.theory.specs.Walk.{Reach, DeadBy, Dead}
+use Rattle.theory.specs.Walk.{Reach, DeadBy, Dead, PairBy}
 use Rattle.theory.specs.Written.{Written}
 use Rattle.theory.specs.Reachable.{Fits}
 use Rattle.theory.specs.Search.{writtenWalk}
@@ -131,42 +131,32 @@ module _ {parent : ℕ → ℕ} {rules : List Rule} {count : ℕ} (fits : Fits p
   pair-numbers-are x y n is straight = rw (ruleAt-numbered n, context-is (fits .descending) is) refl
   pair-numbers-are x y n is crossed = rw (ruleAt-numbered n, context-is (fits .descending) is) refl
 
+  -- the evidence that a rule makes of x and y, whichever side each of them reaches
+  sided-written : {c p q x y r side u v : ℕ} → x < count → y < count → (d : PairBy parent rules c p q r) → Ends (d .ru) side u v
+      → Reach parent rules (d .context) x u → Reach parent rules (d .context) y v
+      → PairNumbers parent rules (Written parent rules) x y r side (pairNumbers parent rules count x y r side)
+  sided-written {x = x} {y = y} {u = u} {v = v} h k d ends a b =
+      let m = context-under (d .rule) (d .isContext) in
+      record {
+        ru = d .ru;
+        rule = d .rule;
+        absence = d .absence;
+        context = d .context;
+        isContext = d .isContext;
+        firstEnd = u;
+        secondEnd = v;
+        ends = ends;
+        fromFirst = writtenWalk parent rules count (d .context) x u;
+        fromSecond = writtenWalk parent rules count (d .context) y v;
+        first = writtenWalk-written fits (d .context) u m x h a;
+        second = writtenWalk-written fits (d .context) v m y k b;
+        are = pair-numbers-are x y (d .rule) (d .isContext) ends;
+      }
+
   pub pair-numbers-written : {c x y r side : ℕ} → x < count → y < count → Sided parent rules c x y r side
       → PairNumbers parent rules (Written parent rules) x y r side (pairNumbers parent rules count x y r side)
-  pair-numbers-written {x = x} {y = y} h k (Decide.straight d) =
-      let m = context-under (d .rule) (d .isContext) in
-      record {
-        ru = d .ru;
-        rule = d .rule;
-        absence = d .absence;
-        context = d .context;
-        isContext = d .isContext;
-        firstEnd = d .ru .left;
-        secondEnd = d .ru .right;
-        ends = straight;
-        fromFirst = writtenWalk parent rules count (d .context) x (d .ru .left);
-        fromSecond = writtenWalk parent rules count (d .context) y (d .ru .right);
-        first = writtenWalk-written fits (d .context) (d .ru .left) m x h (d .left);
-        second = writtenWalk-written fits (d .context) (d .ru .right) m y k (d .right);
-        are = pair-numbers-are x y (d .rule) (d .isContext) straight;
-      }
-  pair-numbers-written {x = x} {y = y} h k (Decide.crossed n d) =
-      let m = context-under (d .rule) (d .isContext) in
-      record {
-        ru = d .ru;
-        rule = d .rule;
-        absence = d .absence;
-        context = d .context;
-        isContext = d .isContext;
-        firstEnd = d .ru .right;
-        secondEnd = d .ru .left;
-        ends = crossed;
-        fromFirst = writtenWalk parent rules count (d .context) x (d .ru .right);
-        fromSecond = writtenWalk parent rules count (d .context) y (d .ru .left);
-        first = writtenWalk-written fits (d .context) (d .ru .right) m x h (d .right);
-        second = writtenWalk-written fits (d .context) (d .ru .left) m y k (d .left);
-        are = pair-numbers-are x y (d .rule) (d .isContext) crossed;
-      }
+  pair-numbers-written h k (Decide.straight d) = sided-written h k d straight (d .left) (d .right)
+  pair-numbers-written h k (Decide.crossed n d) = sided-written h k d crossed (d .right) (d .left)
 
   pub pair-numbers-only : {x y r side : ℕ} {numbers : List ℕ} → x < count → y < count
       → PairNumbers parent rules (Written parent rules) x y r side numbers → numbers ≡ pairNumbers parent rules count x y r side

@@ -9,8 +9,8 @@ use lib.ListN.{length, length-append, length-map}
 use Rattle.files.specs.Sets.{bit, Has, withPath, union, sizeBelow, size, members}
 use Rattle.files.proofs.SetBits.{bit-cases, bit-absent, has-with, has-union, bit-union}
 use Rattle.files.proofs.SetMembers.{size-of-zero, size-below-zero, size-below-suc, size-le, size-members, size-with}
-use Rattle.documents.specs.Paths.{Below, StrictlyBelow, Descending, depthOf}
-use Rattle.documents.proofs.Paths.{below-comparable, below-strictly, below-zero, depth-strictly}
+use Rattle.documents.specs.Paths.{Below, Descending, depthOf}
+use Rattle.documents.proofs.Paths.{below-zero, prefix-depth}
 use Rattle.theory.specs.Order.{Sorted}
 use Rattle.theory.specs.Handed.{eachOf, onlyIf}
 use Rattle.theory.proofs.HandedWords.{has-none}
@@ -69,18 +69,6 @@ each-disjoint f g (Sorted.next {a = c} {rest = l} h s) apart is =
 -- ---- blocks on paths of one depth
 
 module _ {parent : ℕ → ℕ} (desc : Descending parent) where
-  -- of a path's prefixes each has its own depth
-  prefix-depth : {c d x : ℕ} → Below parent c x → Below parent d x → depthOf parent c ≡ depthOf parent d → c ≡ d
-  prefix-depth {c} {d} a b e = pick (below-comparable a b)
-    where
-      strict : {x y : ℕ} → depthOf parent x ≡ depthOf parent y → (x ≡ y) ⊎ StrictlyBelow parent x y → x ≡ y
-      strict e (inl p) = p
-      strict e (inr s) = absurd (omega (arith, depth-strictly desc s))
-
-      pick : Below parent c d ⊎ Below parent d c → c ≡ d
-      pick (inl k) = strict e (below-strictly desc k)
-      pick (inr k) = sym (strict (sym e) (below-strictly desc k))
-
   module _ (goals : List ℕ) (test : ℕ → Bool) (word : ℕ → ℕ) (top depth : ℕ) where
     -- the goals of a block, with the root for the part that has all goals
     mark : ℕ → ℕ
@@ -128,10 +116,10 @@ module _ {parent : ℕ → ℕ} (desc : Descending parent) where
         clash : (c d i : ℕ) → List·Memᴰ c l → List·Memᴰ d l → c < d → ((i ≡ 0) × (test c ≡ true)) ⊎ Has (word c) i
             → ((i ≡ 0) × (test d ≡ true)) ⊎ Has (word d) i → ⊥
         clash c d i p q k (inl a) (inl b) =
-            omega (arith, prefix-depth (all c p (a .1)) (all d q (b .1)) (on c p .1 ∙ sym (on d q .1)))
+            omega (arith, prefix-depth desc (all c p (a .1)) (all d q (b .1)) (on c p .1 ∙ sym (on d q .1)))
         clash c d i p q k (inl a) (inr b) = inner d q (one d 0 q (subst (Has (word d)) (a .0) b))
         clash c d i p q k (inr a) (inl b) = inner c p (one c 0 p (subst (Has (word c)) (b .0) a))
-        clash c d i p q k (inr a) (inr b) = omega (arith, prefix-depth (one c i p a) (one d i q b) (on c p .1 ∙ sym (on d q .1)))
+        clash c d i p q k (inr a) (inr b) = omega (arith, prefix-depth desc (one c i p a) (one d i q b) (on c p .1 ∙ sym (on d q .1)))
 
         apart : (c d i : ℕ) → List·Memᴰ c l → List·Memᴰ d l → c < d → Has (mark c) i → Has (mark d) i → ⊥
         apart c d i p q k a b = clash c d i p q k (mark-cases c i a) (mark-cases d i b)

@@ -1,5 +1,5 @@
 -- The documents handed back for the three answers: what each begins with, that it is the one written down, and what its tree shows.
-use Prim.Native.Nat.{ℕ, _^_, _<_, _≤_}
+use Prim.Native.Nat.{ℕ, _<_, _≤_}
 use mathlib.Core.Path.{_≡_, refl, sym, ap, subst, _∙_}
 use mathlib.Core.Logic.{_⊎_, inl, inr, Iff·trans}
 use mathlib.Core.Bool.{Bool, true, false, _&&_}
@@ -34,7 +34,7 @@ use Rattle.theory.specs.Handed.{
   handedNumbers,
 }
 use Rattle.theory.proofs.Reachable.{reachable-iff, reachable-small}
-use Rattle.theory.proofs.RootPair.{askedIn-iff}
+use Rattle.theory.proofs.RootPair.{askedIn-iff, askedIn-small}
 use Rattle.theory.proofs.Writes.{implies-iff, excludes-iff}
 use Rattle.theory.proofs.Answers.{reach-decides, consistent-some}
 use Rattle.theory.proofs.Kids.{meet-above}
@@ -115,18 +115,13 @@ module _ {parent : ℕ → ℕ} {count : ℕ} (desc : Descending parent) (few : 
       into g (inl e) = has-with (withPath 0 q) p g (omega arith) .1 (inl e)
       into g (inr e) = has-with (withPath 0 q) p g (omega arith) .1 (inr (has-with 0 q g (omega arith) .1 (inl e)))
 
-  asked-small : (required : List ℕ) → askedIn required < 2 ^ 64
-  unfolding askedIn
-  asked-small [] = with-lt 0 0 (lit< tt)
-  asked-small (x ∷ rest) = with-lt (askedIn rest) x (asked-small rest)
-
   -- what the document for consistency begins with
   pub begins-consistency : {required : List ℕ} → 0 < count → ((x : ℕ) → List·Memᴰ x required → x < count)
       → ((x : ℕ) → List·Memᴰ x required → 0 < x) → Begins parent count (0 ∷ required) (startConsistency (askedIn required))
   begins-consistency {required} z inTable inner = record {
     goalsIn = needed-goals desc z inTable;
     word = record {
-      small = asked-small required;
+      small = askedIn-small required;
       is = λ g. Iff·trans (askedIn-iff required (λ x m. omega (arith, inTable x m)) g)
           (goal g, need g);
     };

@@ -18,20 +18,8 @@ use lib.Dec.{T, eqb}
 use Rattle.files.specs.Table.{Rule}
 use Rattle.documents.specs.Paths.{Below, same, up, StrictlyBelow, Descending, towards}
 use Rattle.documents.specs.Parts.{MayStand}
-use Rattle.documents.proofs.Paths.{
-  eqb-true,
-  eqb-false,
-  below-refl,
-  below-trans,
-  below-le,
-  strictly-lt,
-  parent-le,
-  contextOf-context,
-  towards-parent,
-  towards-strictly,
-  towards-below,
-}
-use Rattle.theory.specs.Walk.{Step, climb, along, against, Walk, stay, step, Reach}
+use Rattle.documents.proofs.Paths.{eqb-true, eqb-false, below-refl, below-trans, below-le, strictly-lt, contextOf-context, towards-parent, towards-strictly, towards-below}
+use Rattle.theory.specs.Walk.{climb, Reach}
 use Rattle.theory.specs.Parts.{
   Part,
   pathOf,
@@ -47,7 +35,7 @@ use Rattle.theory.specs.Parts.{
   kidsOf,
 }
 use Rattle.theory.proofs.Fill.{Chosen, someb-some, some-someb, fill-keeps, fill-cases, fill-covers}
-use Rattle.theory.proofs.Walks.{reach-refl, reach-trans, reach-step, reach-prefix, reach-end}
+use Rattle.theory.proofs.Walks.{walk-small, reach-refl, reach-trans, reach-step, reach-prefix, reach-end}
 
 -- goals that a part on c may have: at least one, each below c and in the table
 pub record Goals (parent : ℕ → ℕ) (count c : ℕ) (goals : List ℕ) : Type 0 where
@@ -98,18 +86,9 @@ module _ {parent : ℕ → ℕ} (desc : Descending parent) where
         pick (suc x) h again = reach-trans (reach-step (up h) (climb (omega arith) refl refl) h) again
 
     module _ {count : ℕ} (within : RulesIn count rules) where
-      step-small : {x code y : ℕ} → x < count → Step parent rules x code y → y < count
-      step-small {x} l (climb h o e) = omega (arith, parent-le desc x)
-      step-small l (along r ru n k o a b) = omega (arith, within .right r ru n)
-      step-small l (against r ru n k o a b) = omega (arith, within .left r ru n)
-
-      walk-small : {c x y : ℕ} {codes : List ℕ} → x < count → Walk parent rules c x codes y → y < count
-      walk-small l (stay h) = l
-      walk-small l (step h s w) = walk-small (step-small l s) w
-
       -- what is reachable from the goals is in the table
       pub any-small : {c y : ℕ} {goals : List ℕ} → Goals parent count c goals → ReachAny parent rules c goals y → y < count
-      any-small v a = walk-small (v .small (a .goal) (a .listed)) (a .reach .walk)
+      any-small v a = walk-small desc within (v .small (a .goal) (a .listed)) (a .reach .walk)
 
 -- a goal's own child
 record Own (parent : ℕ → ℕ) (c : ℕ) (goals : List ℕ) (k : Part) : Type 0 where

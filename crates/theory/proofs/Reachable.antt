@@ -13,10 +13,10 @@ use Rattle.files.specs.Table.{Rule}
 use Rattle.files.specs.Sets.{bit, Has, hasb, withPath}
 use Rattle.files.proofs.SetBits.{has-with, hasb-true, hasb-false, hasb-has, not-has, bit-of-zero, with-lt}
 use Rattle.documents.specs.Paths.{Below, same, up, Descending}
-use Rattle.documents.proofs.Paths.{below-step, below-le, parent-le}
-use Rattle.theory.specs.Walk.{Step, climb, along, against, Walk, stay, step, Reach}
+use Rattle.documents.proofs.Paths.{below-step, below-le}
+use Rattle.theory.specs.Walk.{Step, Walk, stay, step, Reach}
 use Rattle.theory.specs.Reachable.{Fits, onward, joinChildren, subtree, oneStep, settle, alone, reachable, reachb}
-use Rattle.theory.proofs.Walks.{walk-start, reach-refl, reach-trans, reach-step, reach-start, reach-end}
+use Rattle.theory.proofs.Walks.{walk-start, reach-refl, reach-trans, reach-step, reach-start, reach-end, step-small, walk-small}
 use Rattle.theory.proofs.OneStep.{Led, Stepped, ahead, StepLaw, onestep-law}
 
 -- a set of the paths below c that have numbers below x
@@ -163,14 +163,11 @@ module _ (pass : ℕ → ℕ) (P : ℕ → Type 0) (keeps : (s : ℕ) → P s �
 module _ {parent : ℕ → ℕ} {rules : List Rule} {count : ℕ} (fits : Fits parent rules count) where
   -- a step from a path of the table leads to one
   pub step-in-table : {x code y : ℕ} → x < count → Step parent rules x code y → y < count
-  step-in-table {x} h (climb z e p) = omega (arith, parent-le (fits .descending) x)
-  step-in-table h (along r ru n k e a b) = rw b at (fits .rulesIn .right r ru n)
-  step-in-table h (against r ru n k e a b) = rw b at (fits .rulesIn .left r ru n)
+  step-in-table = step-small (fits .descending) (fits .rulesIn)
 
   -- a walk from a path of the table ends at one
   pub walk-in-table : {c x y : ℕ} {codes : List ℕ} → x < count → Walk parent rules c x codes y → y < count
-  walk-in-table h (stay b) = h
-  walk-in-table h (step b s w) = walk-in-table (step-in-table h s) w
+  walk-in-table = walk-small (fits .descending) (fits .rulesIn)
 
   module _ (c x : ℕ) (inTable : c < count) (given : x < count) where
     -- a set of reachable paths, x among them if it is below c

@@ -75,7 +75,8 @@ askedIn-iff (a ∷ rest) low x =
     into again (root e) = inr (again (root e))
     into again (listed m) = tail-of again (List·Memᴰ·cases-cons m)
 
-askedIn-small : (required : List ℕ) → askedIn required < 2 ^ 64
+-- as a word it is below 2 ^ 64
+pub askedIn-small : (required : List ℕ) → askedIn required < 2 ^ 64
 unfolding askedIn
 askedIn-small [] = with-lt 0 0 (lit< tt)
 askedIn-small (x ∷ rest) = with-lt (askedIn rest) x (askedIn-small rest)

@@ -35,7 +35,8 @@ use Rattle.theory.specs.Evidence.{
   consistentb,
   evidenceNumbers,
 }
-use Rattle.theory.proofs.Walks.{numbered-unique, walk-start}
+use Rattle.theory.proofs.Walks.{walk-start}
+use Rattle.documents.proofs.RuleBreaks.{numbered-unique}
 use Rattle.theory.proofs.Writes.{implies-iff, excludes-iff, consistent-iff, evidence-written}
 
 module _ {parent : ℕ → ℕ} {rules : List Rule} where
@@ -61,28 +62,23 @@ module _ {parent : ℕ → ℕ} {rules : List Rule} where
   pub shows-pair : {c x y : ℕ} {numbers : List ℕ} → ShowsPair parent rules c x y numbers → Pair parent rules c x y
   shows-pair {c} {x} {y} s = pick (s .by .ends) (s .by .first) (s .by .second)
     where
+      by : {v w : ℕ} {toLeft toRight : List ℕ} → Walk parent rules (s .by .context) v toLeft (s .by .ru .left)
+          → Walk parent rules (s .by .context) w toRight (s .by .ru .right) → PairBy parent rules c v w (s .r)
+      by {toLeft = toLeft} {toRight = toRight} a b = record {
+        ru = s .by .ru;
+        rule = s .by .rule;
+        absence = s .by .absence;
+        context = s .by .context;
+        isContext = s .by .isContext;
+        prefix = s .prefix;
+        left = record { codes = toLeft; walk = a };
+        right = record { codes = toRight; walk = b };
+      }
+
       pick : {side u v : ℕ} → Ends (s .by .ru) side u v → Walk parent rules (s .by .context) x (s .by .fromFirst) u
           → Walk parent rules (s .by .context) y (s .by .fromSecond) v → Pair parent rules c x y
-      pick straight a b = Walk.straight (s .r) (record {
-        ru = s .by .ru;
-        rule = s .by .rule;
-        absence = s .by .absence;
-        context = s .by .context;
-        isContext = s .by .isContext;
-        prefix = s .prefix;
-        left = record { codes = s .by .fromFirst; walk = a };
-        right = record { codes = s .by .fromSecond; walk = b };
-      })
-      pick crossed a b = Walk.crossed (s .r) (record {
-        ru = s .by .ru;
-        rule = s .by .rule;
-        absence = s .by .absence;
-        context = s .by .context;
-        isContext = s .by .isContext;
-        prefix = s .prefix;
-        left = record { codes = s .by .fromSecond; walk = b };
-        right = record { codes = s .by .fromFirst; walk = a };
-      })
+      pick straight a b = Walk.straight (s .r) (by a b)
+      pick crossed a b = Walk.crossed (s .r) (by b a)
 
   pub shows-implication : {p q : ℕ} {numbers : List ℕ} → Descending parent → ShowsImplication parent rules p q numbers
       → Reach parent rules (contextOf parent p q) p q ⊎ Dead parent rules p

@@ -21,6 +21,7 @@ use native.Mathlib.Nat.{zero-add, suc-add}
 use native.Mathlib.Decide.{decLt}
 use native.Mathlib.Omega.{arith}
 use lib.ListN.{length, getD}
+use Rattle.files.proofs.TableTests.{ascending-from}
 use Rattle.files.specs.Sets.{Ascending}
 use Rattle.theory.specs.Order.{NumberedIn, Sorted, Matches}
 use Rattle.theory.specs.Handed.{eachOf}
@@ -236,12 +237,7 @@ module _ {A B : Type 0} {Fit : A → B → Type 0} where
 -- strictly ascending is sorted by number
 pub ascending-sorted : {low : ℕ} {l : List ℕ} → Ascending low l → Sorted _<_ l
 ascending-sorted Ascending.none = Sorted.none
-ascending-sorted (Ascending.next h s) = Sorted.next (λ b m. above s b m) (ascending-sorted s)
-  where
-    above : {low : ℕ} {l : List ℕ} → Ascending low l → (b : ℕ) → List·Memᴰ b l → low ≤ b
-    above Ascending.none b m = absurd (List·Memᴰ·not-nil m)
-    above (Ascending.next h s) b (List·Memᴰ·head e) = omega arith
-    above (Ascending.next h s) b (List·Memᴰ·tail m) = omega (arith, above s b m)
+ascending-sorted (Ascending.next h s) = Sorted.next (ascending-from s) (ascending-sorted s)
 
 pub sorted-ascending : {low : ℕ} {l : List ℕ} → Sorted _<_ l → ((a : ℕ) → List·Memᴰ a l → low ≤ a) → Ascending low l
 sorted-ascending Sorted.none h = Ascending.none

@@ -5,14 +5,11 @@ use mathlib.Core.List.{List, [], _∷_, _++_}
 use native.Mathlib.Omega.{arith}
 use lib.ListN.{length}
 use Rattle.files.specs.Table.{Rule, Numbered, first, later}
-use Rattle.documents.specs.Paths.{Below}
-use Rattle.documents.proofs.Paths.{below-trans}
+use Rattle.documents.specs.Paths.{Below, Descending}
+use Rattle.documents.proofs.Paths.{below-trans, parent-le}
+use Rattle.documents.proofs.RuleBreaks.{numbered-unique}
 use Rattle.theory.specs.Walk.{Step, climb, along, against, Walk, stay, step, Reach}
-
--- a rule number names one rule
-pub numbered-unique : {rules : List Rule} {r : ℕ} {a b : Rule} → Numbered rules r a → Numbered rules r b → a ≡ b
-numbered-unique first first = refl
-numbered-unique (later m) (later n) = numbered-unique m n
+use Rattle.theory.specs.Parts.{RulesIn}
 
 -- a rule's number is below the number of rules
 pub numbered-lt : {rules : List Rule} {r : ℕ} {ru : Rule} → Numbered rules r ru → r < length rules
@@ -95,3 +92,15 @@ module _ {parent : ℕ → ℕ} {rules : List Rule} where
 
   pub reach-end : {c x y : ℕ} → Reach parent rules c x y → Below parent c y
   reach-end a = walk-end (a .walk)
+
+module _ {parent : ℕ → ℕ} {rules : List Rule} {count : ℕ} (desc : Descending parent) (within : RulesIn count rules) where
+  -- a step from a path of the table leads to one
+  pub step-small : {x code y : ℕ} → x < count → Step parent rules x code y → y < count
+  step-small {x} l (climb h o e) = omega (arith, parent-le desc x)
+  step-small l (along r ru n k o a b) = omega (arith, within .right r ru n)
+  step-small l (against r ru n k o a b) = omega (arith, within .left r ru n)
+
+  -- a walk from a path of the table ends at one
+  pub walk-small : {c x y : ℕ} {codes : List ℕ} → x < count → Walk parent rules c x codes y → y < count
+  walk-small l (stay h) = l
+  walk-small l (step h s w) = walk-small (step-small l s) w

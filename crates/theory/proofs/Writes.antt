@@ -46,7 +46,6 @@ use Rattle.theory.specs.Evidence.{
   evidenceNumbers,
   inconsistentNumbers,
 }
-use Rattle.theory.specs.Evidence
 use Rattle.theory.proofs.Reachable.{reachb-iff}
 use Rattle.theory.proofs.Decide.{isDead-iff}
 use Rattle.theory.proofs.Pairs.{either-iff, pair-least, isPair-iff, least-pair-unique}

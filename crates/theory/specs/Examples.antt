@@ -57,10 +57,11 @@ pub record Example : Type 0 where
   pub question : Question
   pub answer : Answer
 
--- implication and absence of two paths
+-- implication of two paths
 abbrev pub implies : (p q : ℕ) → Rule
 implies p q = record { kind = 1; left = p; right = q }
 
+-- absence of two paths
 abbrev pub excludes : (p q : ℕ) → Rule
 excludes p q = record { kind = 2; left = p; right = q }
 
@@ -73,17 +74,19 @@ pathsT =
     ∷ record { parent = 0; label = 14 }
     ∷ []
 
--- rules over table T with required paths, and over the table of one path
+-- rules over table T, with required paths
 abbrev pub overT : (required : List ℕ) → List Rule → RuleSet
 overT required rules = record { root = 10; paths = pathsT; required = required; rules = rules }
 
+-- rules over the table of one path
 abbrev pub overOne : List Rule → RuleSet
 overOne rules = record { root = 10; paths = []; required = []; rules = rules }
 
--- the rules of E1, and of E2
+-- the rules of E1
 abbrev pub rulesE1 : List Rule
 rulesE1 = implies 2 4 ∷ implies 4 3 ∷ []
 
+-- the rules of E2
 abbrev pub rulesE2 : List Rule
 rulesE2 = implies 2 4 ∷ implies 4 3 ∷ excludes 2 3 ∷ []
 

@@ -54,7 +54,7 @@ unfoldable pub eachOf : {A B : Type 0} (f : A → List B) → List A → List B
 eachOf f [] = []
 eachOf f (a ∷ rest) = f a ++ eachOf f rest
 
--- a member put before a list where the test passes
+-- a list of one member where the test passes, else of none
 unfoldable pub onlyIf : {A : Type 0} → Bool → A → List A
 onlyIf true a = a ∷ []
 onlyIf false a = []

@@ -13,7 +13,7 @@ firstFrom test (suc left) at = elim (test at) [ true ↦ at | false ↦ firstFro
 unfoldable pub least : (test : ℕ → Bool) (n : ℕ) → ℕ
 least test n = firstFrom test n 0
 
--- the set of the paths below n that pass the test
+-- the set of the paths with numbers below n that pass the test
 unfoldable pub passing : (test : ℕ → Bool) (n : ℕ) → ℕ
 passing test zero = 0
 passing test (suc x) = let w = passing test x in elim (test x) [ true ↦ withPath w x | false ↦ w ]

@@ -1,3 +1,4 @@
+-- The definitions of walks, reachable sets, decisions, evidence and the documents handed back.
 pub mod Decide
 pub mod Evidence
 pub mod Examples

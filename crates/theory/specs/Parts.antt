@@ -76,7 +76,7 @@ lacksb reach a chosen x =
       | false ↦ elim (coversb reach a x) [ true ↦ not (someb (λ k. coversb reach k x) chosen) | false ↦ false ]
     ]
 
--- the paths below `left`, highest number first, each with a child part exactly if no child chosen so far covers it
+-- the paths with numbers below `left`, highest number first, each with a child part exactly if no child chosen so far covers it
 unfoldable pub fill : (parent : ℕ → ℕ) (reach : ℕ → ℕ → ℕ → Bool) → Part → (left : ℕ) → List Part → List Part
 fill parent reach a zero chosen = chosen
 fill parent reach a (suc x) chosen =

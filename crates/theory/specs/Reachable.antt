@@ -72,7 +72,7 @@ unfoldable pub byRules : (way : Way) (within s : ℕ) (rules : List Rule) (joine
 byRules way within s [] joined = joined
 byRules way within s (ru ∷ rest) joined = byRules way within s rest (byRule way within s ru joined)
 
--- the paths to which the climbs from paths below `left` lead join, highest number first
+-- the paths to which the climbs from paths with numbers below `left` lead join, highest number first
 unfoldable pub byClimbs : (way : Way) (parent : ℕ → ℕ) (within s left joined : ℕ) → ℕ
 byClimbs way parent within s zero joined = joined
 byClimbs way parent within s (suc x) joined =

@@ -1,3 +1,4 @@
+-- `entry::bozdurmek_check` meets its contract.
 use borrow.Author.Needs.{needs}
 use Rattle.entry.proofs.Calling.{file-refused, file-accepted, laid}
 use Rattle.entry.proofs.bozdurmek_check.Statement.{statement}

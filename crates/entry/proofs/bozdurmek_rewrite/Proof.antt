@@ -1,3 +1,4 @@
+-- `entry::bozdurmek_rewrite` meets its contract.
 use borrow.Author.Needs.{needs}
 use mathlib.Core.Path.{refl}
 use Rattle.entry.proofs.Calling.{file-refused, file-accepted, laid}

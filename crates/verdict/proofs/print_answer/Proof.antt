@@ -1,11 +1,7 @@
+-- `verdict::print_answer` meets its contract.
 use borrow.Author.Needs.{needs}
 use Rattle.verdict.proofs.print_answer.Statement.{statement}
 use Rattle.verdict.proofs.print_answer.Tie as tie
-use Rattle.verdict.proofs.print_answer.Reads as reads
-use Rattle.verdict.proofs.print_answer.Lts as lts
-use Rattle.files.proofs.read.read_rules.Reads as read-rules-reads
-use Rattle.verdict.proofs.print_refusal.Reads as print-refusal-reads
-use Rattle.verdict.proofs.print_verdict.Reads as print-verdict-reads
 use native.Mathlib.Omega.{arith}
 use lib.ListN.{length-take}
 

@@ -1,10 +1,6 @@
+-- `verdict::print_numbers` meets its contract.
 use Rattle.verdict.proofs.print_numbers.Statement.{statement}
 use Rattle.verdict.proofs.print_numbers.Tie as tie
-use Rattle.verdict.proofs.print_numbers.Reads as reads
-use Rattle.verdict.proofs.print_numbers.Lts as lts
-use Rattle.io.proofs.buffer.Reads as buffer-reads
-use Rattle.listing.proofs.lay.lay.Reads as lay-reads
-use Rattle.verdict.proofs.write_start.Reads as write-start-reads
 use borrow.Author.Needs.{needs}
 use mathlib.Core.Path.{_≡_}
 use lib.ListN.{length}

@@ -1,9 +1,7 @@
+-- `verdict::print_start` meets its contract.
 use borrow.Author.Needs.{needs}
 use Rattle.verdict.proofs.print_start.Statement.{statement}
 use Rattle.verdict.proofs.print_start.Tie as tie
-use Rattle.verdict.proofs.print_start.Reads as reads
-use Rattle.verdict.proofs.print_start.Lts as lts
-use Rattle.verdict.proofs.print_numbers.Reads as print-numbers-reads
 use native.Mathlib.Omega.{arith}
 use lib.ListN.{length-take}
 

@@ -1,9 +1,7 @@
+-- `verdict::write_start` meets its contract.
 use borrow.Author.Needs.{needs}
 use Rattle.verdict.proofs.write_start.Statement.{statement}
 use Rattle.verdict.proofs.write_start.Tie as tie
-use Rattle.verdict.proofs.write_start.Reads as reads
-use Rattle.verdict.proofs.write_start.Lts as lts
-use Rattle.io.proofs.write_all.Reads as write-all-reads
 use native.Mathlib.Omega.{arith}
 use lib.ListN.{length-take}
 

@@ -1,3 +1,4 @@
+-- `documents::check::breaks` meets its contract.
 use borrow.Author.Needs.{needs}
 use Rattle.documents.proofs.check.breaks.Statement.{statement}
 use Rattle.documents.proofs.check.breaks.Tie as tie

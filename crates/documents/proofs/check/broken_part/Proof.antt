@@ -1,3 +1,4 @@
+-- `documents::check::broken_part` meets its contract.
 use Rattle.documents.proofs.check.broken_part.Statement.{statement}
 use Rattle.documents.proofs.check.broken_part.Tie as tie
 use borrow.Author.Needs.{needs}

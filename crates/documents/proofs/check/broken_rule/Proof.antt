@@ -1,3 +1,4 @@
+-- `documents::check::broken_rule` meets its contract.
 use Rattle.documents.proofs.check.broken_rule.Statement.{statement}
 use Rattle.documents.proofs.check.broken_rule.Tie as tie
 use borrow.Author.Needs.{needs}

@@ -1,3 +1,4 @@
+-- `documents::check::check_document` meets its contract.
 use native.Mathlib.Omega.{arith}
 use borrow.Author.Needs.{needs}
 use Rattle.documents.proofs.CheckingJoins.{checks}

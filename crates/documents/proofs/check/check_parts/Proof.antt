@@ -1,3 +1,4 @@
+-- `documents::check::check_parts` meets its contract.
 use Prim.Native.Nat.{ℕ, _<_}
 use native.Mathlib.Omega.{arith}
 use lib.ListN.{getD}

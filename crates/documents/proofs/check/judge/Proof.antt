@@ -1,3 +1,4 @@
+-- `documents::check::judge` meets its contract.
 use borrow.Author.Needs.{needs}
 use Rattle.documents.proofs.check.judge.Statement.{statement}
 use Rattle.documents.proofs.check.judge.Tie as tie

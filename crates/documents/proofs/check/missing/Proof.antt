@@ -1,3 +1,4 @@
+-- `documents::check::missing` meets its contract.
 use borrow.Author.Needs.{needs}
 use Rattle.documents.proofs.check.missing.Statement.{statement}
 use Rattle.documents.proofs.check.missing.Tie as tie

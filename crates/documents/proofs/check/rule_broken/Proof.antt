@@ -1,3 +1,4 @@
+-- `documents::check::rule_broken` meets its contract.
 use borrow.Author.Needs.{needs}
 use Rattle.documents.proofs.check.rule_broken.Statement.{statement}
 use Rattle.documents.proofs.check.rule_broken.Tie as tie

@@ -1,3 +1,4 @@
+-- `documents::check::verdict` meets its contract.
 use borrow.Author.Needs.{needs}
 use Rattle.documents.proofs.check.verdict.Statement.{statement}
 use Rattle.documents.proofs.check.verdict.Tie as tie

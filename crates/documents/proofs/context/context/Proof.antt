@@ -1,3 +1,4 @@
+-- `documents::context::context` meets its contract.
 use borrow.Author.Needs.{needs}
 use Rattle.documents.proofs.context.context.Statement.{statement}
 use Rattle.documents.proofs.context.context.Tie as tie

@@ -1,3 +1,4 @@
+-- `documents::context::meet` meets its contract.
 use Rattle.documents.proofs.context.meet.Statement.{statement}
 use Rattle.documents.proofs.context.meet.Tie as tie
 use borrow.Author.Needs.{needs}

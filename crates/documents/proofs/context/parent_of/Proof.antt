@@ -1,3 +1,4 @@
+-- `documents::context::parent_of` meets its contract.
 use borrow.Author.Needs.{needs}
 use Rattle.documents.proofs.context.parent_of.Statement.{statement}
 use Rattle.documents.proofs.context.parent_of.Tie as tie

@@ -1,3 +1,4 @@
+-- `documents::document::mark` meets its contract.
 use borrow.Author.Needs.{needs}
 use Rattle.documents.proofs.document.mark.Statement.{statement}
 use Rattle.documents.proofs.document.mark.Tie as tie

@@ -1,3 +1,4 @@
+-- `documents::document::named_test` meets its contract.
 use borrow.Author.Needs.{needs}
 use Rattle.documents.proofs.document.named_test.Statement.{statement}
 use Rattle.documents.proofs.document.named_test.Tie as tie

@@ -1,3 +1,4 @@
+-- `documents::document::part_of` meets its contract.
 use borrow.Author.Needs.{needs}
 use Rattle.documents.proofs.document.part_of.Statement.{statement}
 use Rattle.documents.proofs.document.part_of.Tie as tie

@@ -1,3 +1,4 @@
+-- `documents::document::path_test` meets its contract.
 use borrow.Author.Needs.{needs}
 use Rattle.documents.proofs.document.path_test.Statement.{statement}
 use Rattle.documents.proofs.document.path_test.Tie as tie

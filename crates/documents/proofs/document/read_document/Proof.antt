@@ -1,3 +1,4 @@
+-- `documents::document::read_document` meets its contract.
 use borrow.Author.Needs.{needs}
 use Rattle.documents.proofs.document.read_document.Statement.{statement}
 use Rattle.documents.proofs.document.read_document.Tie as tie

@@ -1,3 +1,4 @@
+-- `documents::document::read_kid_count` meets its contract.
 use borrow.Author.Needs.{needs}
 use Rattle.documents.proofs.document.read_kid_count.Statement.{statement}
 use Rattle.documents.proofs.document.read_kid_count.Tie as tie

@@ -1,3 +1,4 @@
+-- `documents::document::read_kids` meets its contract.
 use Rattle.documents.proofs.document.read_kids.Statement.{statement}
 use Rattle.documents.proofs.document.read_kids.Tie as tie
 use borrow.Author.Needs.{needs}

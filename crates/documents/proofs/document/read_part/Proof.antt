@@ -1,3 +1,4 @@
+-- `documents::document::read_part` meets its contract.
 use borrow.Author.Needs.{needs}
 use Rattle.documents.proofs.document.read_part.Statement.{statement}
 use Rattle.documents.proofs.document.read_part.Tie as tie

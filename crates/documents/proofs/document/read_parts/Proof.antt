@@ -1,3 +1,4 @@
+-- `documents::document::read_parts` meets its contract.
 use Rattle.documents.proofs.document.read_parts.Statement.{statement}
 use Rattle.documents.proofs.document.read_parts.Tie as tie
 use borrow.Author.Needs.{needs}

@@ -1,3 +1,4 @@
+-- `documents::document::read_path` meets its contract.
 use borrow.Author.Needs.{needs}
 use Rattle.documents.proofs.document.read_path.Statement.{statement}
 use Rattle.documents.proofs.document.read_path.Tie as tie

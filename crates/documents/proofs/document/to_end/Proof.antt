@@ -1,3 +1,4 @@
+-- `documents::document::to_end` meets its contract.
 use borrow.Author.Needs.{needs}
 use Rattle.documents.proofs.document.to_end.Statement.{statement}
 use Rattle.documents.proofs.document.to_end.Tie as tie

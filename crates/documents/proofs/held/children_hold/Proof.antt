@@ -1,3 +1,4 @@
+-- `documents::held::children_hold` meets its contract.
 use borrow.Author.Needs.{needs}
 use Rattle.documents.proofs.held.children_hold.Statement.{statement}
 use Rattle.documents.proofs.held.children_hold.Tie as tie

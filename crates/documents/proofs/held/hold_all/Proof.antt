@@ -1,3 +1,4 @@
+-- `documents::held::hold_all` meets its contract.
 use Rattle.documents.proofs.held.hold_all.Statement.{statement}
 use Rattle.documents.proofs.held.hold_all.Tie as tie
 use native.Mathlib.Omega.{arith}

@@ -1,3 +1,4 @@
+-- `documents::held::kids_hold` meets its contract.
 use Rattle.documents.proofs.held.kids_hold.Statement.{statement}
 use Rattle.documents.proofs.held.kids_hold.Tie as tie
 use borrow.Author.Needs.{needs}

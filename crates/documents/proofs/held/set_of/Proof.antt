@@ -1,3 +1,4 @@
+-- `documents::held::set_of` meets its contract.
 use borrow.Author.Needs.{needs}
 use Rattle.documents.proofs.held.set_of.Statement.{statement}
 use Rattle.documents.proofs.held.set_of.Tie as tie

@@ -1,3 +1,4 @@
+-- `entry::numbers::checked` meets its contract.
 use borrow.Author.Needs.{needs}
 use Rattle.entry.proofs.numbers.checked.Statement.{statement}
 use Rattle.entry.proofs.numbers.checked.Tie as tie

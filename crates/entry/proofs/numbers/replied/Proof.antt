@@ -1,3 +1,4 @@
+-- `entry::numbers::replied` meets its contract.
 use borrow.Author.Needs.{needs}
 use Rattle.entry.proofs.numbers.replied.Statement.{statement}
 use Rattle.entry.proofs.numbers.replied.Tie as tie

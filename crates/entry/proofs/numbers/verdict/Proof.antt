@@ -1,3 +1,4 @@
+-- `entry::numbers::verdict` meets its contract.
 use borrow.Author.Needs.{needs}
 use Rattle.entry.proofs.numbers.verdict.Statement.{statement}
 use Rattle.entry.proofs.numbers.verdict.Tie as tie

@@ -1,3 +1,4 @@
+-- `entry::numbers::written` meets its contract.
 use borrow.Author.Needs.{needs}
 use Rattle.entry.proofs.numbers.written.Statement.{statement}
 use Rattle.entry.proofs.numbers.written.Tie as tie

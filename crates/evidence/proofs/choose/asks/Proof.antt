@@ -1,10 +1,7 @@
+-- `evidence::choose::asks` meets its contract.
 use borrow.Author.Needs.{needs}
 use Rattle.evidence.proofs.choose.asks.Statement.{statement}
 use Rattle.evidence.proofs.choose.asks.Tie as tie
-use Rattle.evidence.proofs.choose.asks.Reads as reads
-use Rattle.evidence.proofs.choose.asks.Lts as lts
-use Rattle.files.proofs.sets.has.Reads as has-reads
-use Rattle.reachable.proofs.reach.reach.Reads as reach-reads
 use Rattle.evidence.proofs.Choosing.{asks-laws}
 
 has-requires : tie.Need-has-requires

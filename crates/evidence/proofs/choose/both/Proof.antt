@@ -1,10 +1,7 @@
+-- `evidence::choose::both` meets its contract.
 use borrow.Author.Needs.{needs}
 use Rattle.evidence.proofs.choose.both.Statement.{statement}
 use Rattle.evidence.proofs.choose.both.Tie as tie
-use Rattle.evidence.proofs.choose.both.Reads as reads
-use Rattle.evidence.proofs.choose.both.Lts as lts
-use Rattle.files.proofs.sets.has.Reads as has-reads
-use Rattle.reachable.proofs.reach.reach.Reads as reach-reads
 use Rattle.evidence.proofs.Choosing.{both-laws}
 
 reach-requires : tie.Need-reach-requires

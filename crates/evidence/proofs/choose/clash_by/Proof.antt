@@ -1,10 +1,7 @@
+-- `evidence::choose::clash_by` meets its contract.
 use borrow.Author.Needs.{needs}
 use Rattle.evidence.proofs.choose.clash_by.Statement.{statement}
 use Rattle.evidence.proofs.choose.clash_by.Tie as tie
-use Rattle.evidence.proofs.choose.clash_by.Reads as reads
-use Rattle.evidence.proofs.choose.clash_by.Lts as lts
-use Rattle.evidence.proofs.choose.clash_paths.Reads as clash-paths-reads
-use Rattle.reachable.proofs.steps.context.Reads as context-reads
 use Rattle.evidence.proofs.Choosing.{placed-laws, clash-laws}
 
 context-requires : tie.Need-context-requires

@@ -1,9 +1,6 @@
+-- `evidence::choose::clash_paths` meets its contract.
 use Rattle.evidence.proofs.choose.clash_paths.Statement.{statement}
 use Rattle.evidence.proofs.choose.clash_paths.Tie as tie
-use Rattle.evidence.proofs.choose.clash_paths.Reads as reads
-use Rattle.evidence.proofs.choose.clash_paths.Lts as lts
-use Rattle.evidence.proofs.choose.both.Reads as both-reads
-use Rattle.evidence.proofs.choose.join_if.Reads as join-if-reads
 use borrow.Author.Needs.{needs}
 use Prim.Native.Nat.{_-_}
 use mathlib.Core.Path.{_≡_}

@@ -1,9 +1,6 @@
+-- `evidence::choose::clash_rule` meets its contract.
 use Rattle.evidence.proofs.choose.clash_rule.Statement.{statement}
 use Rattle.evidence.proofs.choose.clash_rule.Tie as tie
-use Rattle.evidence.proofs.choose.clash_rule.Reads as reads
-use Rattle.evidence.proofs.choose.clash_rule.Lts as lts
-use Rattle.evidence.proofs.choose.clashes_at.Reads as clashes-at-reads
-use Rattle.reachable.proofs.steps.wide.Reads as wide-reads
 use borrow.Author.Needs.{needs}
 use Prim.Native.Nat.{_-_, _≤_}
 use mathlib.Core.Path.{_≡_}

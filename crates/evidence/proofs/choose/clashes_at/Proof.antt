@@ -1,10 +1,7 @@
+-- `evidence::choose::clashes_at` meets its contract.
 use borrow.Author.Needs.{needs}
 use Rattle.evidence.proofs.choose.clashes_at.Statement.{statement}
 use Rattle.evidence.proofs.choose.clashes_at.Tie as tie
-use Rattle.evidence.proofs.choose.clashes_at.Reads as reads
-use Rattle.evidence.proofs.choose.clashes_at.Lts as lts
-use Rattle.evidence.proofs.choose.both.Reads as both-reads
-use Rattle.reachable.proofs.steps.context.Reads as context-reads
 use Rattle.evidence.proofs.Choosing.{placed-laws, clash-laws}
 
 context-requires : tie.Need-context-requires

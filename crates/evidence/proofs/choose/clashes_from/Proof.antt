@@ -1,10 +1,7 @@
+-- `evidence::choose::clashes_from` meets its contract.
 use borrow.Author.Needs.{needs}
 use Rattle.evidence.proofs.choose.clashes_from.Statement.{statement}
 use Rattle.evidence.proofs.choose.clashes_from.Tie as tie
-use Rattle.evidence.proofs.choose.clashes_from.Reads as reads
-use Rattle.evidence.proofs.choose.clashes_from.Lts as lts
-use Rattle.files.proofs.sets.common.Reads as common-reads
-use Rattle.reachable.proofs.reach.reach.Reads as reach-reads
 use Rattle.evidence.proofs.Choosing.{dead-laws}
 
 reach-requires : tie.Need-reach-requires

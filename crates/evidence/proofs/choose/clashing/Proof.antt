@@ -1,9 +1,6 @@
+-- `evidence::choose::clashing` meets its contract.
 use Rattle.evidence.proofs.choose.clashing.Statement.{statement}
 use Rattle.evidence.proofs.choose.clashing.Tie as tie
-use Rattle.evidence.proofs.choose.clashing.Reads as reads
-use Rattle.evidence.proofs.choose.clashing.Lts as lts
-use Rattle.evidence.proofs.choose.clash_by.Reads as clash-by-reads
-use Rattle.reachable.proofs.steps.wide.Reads as wide-reads
 use borrow.Author.Needs.{needs}
 use Prim.Native.Nat.{_-_}
 use mathlib.Core.Path.{_≡_}

@@ -1,9 +1,6 @@
+-- `evidence::choose::dead_paths` meets its contract.
 use Rattle.evidence.proofs.choose.dead_paths.Statement.{statement}
 use Rattle.evidence.proofs.choose.dead_paths.Tie as tie
-use Rattle.evidence.proofs.choose.dead_paths.Reads as reads
-use Rattle.evidence.proofs.choose.dead_paths.Lts as lts
-use Rattle.evidence.proofs.choose.is_dead.Reads as is-dead-reads
-use Rattle.evidence.proofs.choose.join_if.Reads as join-if-reads
 use borrow.Author.Needs.{needs}
 use Prim.Native.Nat.{_-_, _≤_}
 use mathlib.Core.Path.{_≡_}

@@ -1,8 +1,6 @@
+-- `evidence::choose::from_asked` meets its contract.
 use Rattle.evidence.proofs.choose.from_asked.Statement.{statement}
 use Rattle.evidence.proofs.choose.from_asked.Tie as tie
-use Rattle.evidence.proofs.choose.from_asked.Reads as reads
-use Rattle.evidence.proofs.choose.from_asked.Lts as lts
-use Rattle.evidence.proofs.choose.join_asked.Reads as join-asked-reads
 use borrow.Author.Needs.{needs}
 use Prim.Native.Nat.{_-_, _≤_}
 use mathlib.Core.Path.{_≡_}

@@ -1,9 +1,7 @@
+-- `evidence::choose::is_dead` meets its contract.
 use borrow.Author.Needs.{needs}
 use Rattle.evidence.proofs.choose.is_dead.Statement.{statement}
 use Rattle.evidence.proofs.choose.is_dead.Tie as tie
-use Rattle.evidence.proofs.choose.is_dead.Reads as reads
-use Rattle.evidence.proofs.choose.is_dead.Lts as lts
-use Rattle.evidence.proofs.choose.clashes_from.Reads as clashes-from-reads
 use Rattle.evidence.proofs.Choosing.{dead-laws}
 
 clashes-from-requires : tie.Need-clashes-from-requires

@@ -1,11 +1,7 @@
+-- `evidence::choose::join_asked` meets its contract.
 use borrow.Author.Needs.{needs}
 use Rattle.evidence.proofs.choose.join_asked.Statement.{statement}
 use Rattle.evidence.proofs.choose.join_asked.Tie as tie
-use Rattle.evidence.proofs.choose.join_asked.Reads as reads
-use Rattle.evidence.proofs.choose.join_asked.Lts as lts
-use Rattle.files.proofs.sets.has.Reads as has-reads
-use Rattle.files.proofs.sets.union.Reads as union-reads
-use Rattle.reachable.proofs.reach.reach.Reads as reach-reads
 use Rattle.evidence.proofs.Choosing.{asked-laws}
 
 has-requires : tie.Need-has-requires

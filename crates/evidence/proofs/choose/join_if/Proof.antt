@@ -1,9 +1,7 @@
+-- `evidence::choose::join_if` meets its contract.
 use borrow.Author.Needs.{needs}
 use Rattle.evidence.proofs.choose.join_if.Statement.{statement}
 use Rattle.evidence.proofs.choose.join_if.Tie as tie
-use Rattle.evidence.proofs.choose.join_if.Reads as reads
-use Rattle.evidence.proofs.choose.join_if.Lts as lts
-use Rattle.files.proofs.sets.with.Reads as with-reads
 use Rattle.evidence.proofs.Choosing.{join-laws}
 
 with-requires : tie.Need-with-requires

@@ -1,10 +1,7 @@
+-- `evidence::choose::pair_by` meets its contract.
 use borrow.Author.Needs.{needs}
 use Rattle.evidence.proofs.choose.pair_by.Statement.{statement}
 use Rattle.evidence.proofs.choose.pair_by.Tie as tie
-use Rattle.evidence.proofs.choose.pair_by.Reads as reads
-use Rattle.evidence.proofs.choose.pair_by.Lts as lts
-use Rattle.evidence.proofs.choose.sides.Reads as sides-reads
-use Rattle.reachable.proofs.steps.context.Reads as context-reads
 use Rattle.evidence.proofs.Choosing.{placed-laws, pair-laws}
 
 context-requires : tie.Need-context-requires

@@ -1,10 +1,7 @@
+-- `evidence::choose::pair_side` meets its contract.
 use borrow.Author.Needs.{needs}
 use Rattle.evidence.proofs.choose.pair_side.Statement.{statement}
 use Rattle.evidence.proofs.choose.pair_side.Tie as tie
-use Rattle.evidence.proofs.choose.pair_side.Reads as reads
-use Rattle.evidence.proofs.choose.pair_side.Lts as lts
-use Rattle.evidence.proofs.choose.straight_by.Reads as straight-by-reads
-use Rattle.reachable.proofs.steps.wide.Reads as wide-reads
 use Rattle.evidence.proofs.Choosing.{placed-laws, side-laws}
 
 element-copy-out-straight-by : tie.Need-element-copy-out-straight-by

@@ -1,8 +1,6 @@
+-- `evidence::choose::reacher` meets its contract.
 use Rattle.evidence.proofs.choose.reacher.Statement.{statement}
 use Rattle.evidence.proofs.choose.reacher.Tie as tie
-use Rattle.evidence.proofs.choose.reacher.Reads as reads
-use Rattle.evidence.proofs.choose.reacher.Lts as lts
-use Rattle.evidence.proofs.choose.asks.Reads as asks-reads
 use borrow.Author.Needs.{needs}
 use Prim.Native.Nat.{_-_, _≤_}
 use mathlib.Core.Path.{_≡_}

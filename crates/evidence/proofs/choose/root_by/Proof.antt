@@ -1,10 +1,7 @@
+-- `evidence::choose::root_by` meets its contract.
 use borrow.Author.Needs.{needs}
 use Rattle.evidence.proofs.choose.root_by.Statement.{statement}
 use Rattle.evidence.proofs.choose.root_by.Tie as tie
-use Rattle.evidence.proofs.choose.root_by.Reads as reads
-use Rattle.evidence.proofs.choose.root_by.Lts as lts
-use Rattle.files.proofs.sets.has.Reads as has-reads
-use Rattle.reachable.proofs.steps.context.Reads as context-reads
 use Rattle.evidence.proofs.Choosing.{root-laws}
 
 has-requires : tie.Need-has-requires

@@ -1,10 +1,6 @@
+-- `evidence::choose::root_rule` meets its contract.
 use Rattle.evidence.proofs.choose.root_rule.Statement.{statement}
 use Rattle.evidence.proofs.choose.root_rule.Tie as tie
-use Rattle.evidence.proofs.choose.root_rule.Reads as reads
-use Rattle.evidence.proofs.choose.root_rule.Lts as lts
-use Rattle.evidence.proofs.choose.from_asked.Reads as from-asked-reads
-use Rattle.evidence.proofs.choose.root_by.Reads as root-by-reads
-use Rattle.reachable.proofs.steps.wide.Reads as wide-reads
 use borrow.Author.Needs.{needs}
 use Prim.Native.Nat.{_-_, _≤_}
 use mathlib.Core.Path.{_≡_}

@@ -1,10 +1,7 @@
+-- `evidence::choose::sides` meets its contract.
 use borrow.Author.Needs.{needs}
 use Rattle.evidence.proofs.choose.sides.Statement.{statement}
 use Rattle.evidence.proofs.choose.sides.Tie as tie
-use Rattle.evidence.proofs.choose.sides.Reads as reads
-use Rattle.evidence.proofs.choose.sides.Lts as lts
-use Rattle.files.proofs.sets.has.Reads as has-reads
-use Rattle.reachable.proofs.reach.reach.Reads as reach-reads
 use Rattle.evidence.proofs.Choosing.{placed-laws, sides-laws}
 
 reach-requires : tie.Need-reach-requires

@@ -1,10 +1,7 @@
+-- `evidence::choose::straight_by` meets its contract.
 use borrow.Author.Needs.{needs}
 use Rattle.evidence.proofs.choose.straight_by.Statement.{statement}
 use Rattle.evidence.proofs.choose.straight_by.Tie as tie
-use Rattle.evidence.proofs.choose.straight_by.Reads as reads
-use Rattle.evidence.proofs.choose.straight_by.Lts as lts
-use Rattle.evidence.proofs.choose.sides.Reads as sides-reads
-use Rattle.reachable.proofs.steps.context.Reads as context-reads
 use Rattle.evidence.proofs.Choosing.{placed-laws, straight-laws}
 
 context-requires : tie.Need-context-requires

@@ -1,10 +1,6 @@
+-- `evidence::collect::put_absence` meets its contract.
 use Rattle.evidence.proofs.collect.put_absence.Statement.{statement}
 use Rattle.evidence.proofs.collect.put_absence.Tie as tie
-use Rattle.evidence.proofs.collect.put_absence.Reads as reads
-use Rattle.evidence.proofs.collect.put_absence.Lts as lts
-use Rattle.evidence.proofs.choose.is_dead.Reads as is-dead-reads
-use Rattle.evidence.proofs.collect.put_dead.Reads as put-dead-reads
-use Rattle.evidence.proofs.collect.put_least_pair.Reads as put-least-pair-reads
 use borrow.Author.Needs.{needs}
 use Rattle.evidence.proofs.Choosing.{placed-laws}
 use Rattle.evidence.proofs.Collecting.{absence-laws}

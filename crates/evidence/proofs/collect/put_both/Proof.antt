@@ -1,9 +1,7 @@
+-- `evidence::collect::put_both` meets its contract.
 use borrow.Author.Needs.{needs}
 use Rattle.evidence.proofs.collect.put_both.Statement.{statement}
 use Rattle.evidence.proofs.collect.put_both.Tie as tie
-use Rattle.evidence.proofs.collect.put_both.Reads as reads
-use Rattle.evidence.proofs.collect.put_both.Lts as lts
-use Rattle.evidence.proofs.collect.put_implication.Reads as put-implication-reads
 use Rattle.evidence.proofs.Collecting.{both-stored}
 
 put-implication-requires : tie.Need-put-implication-requires

@@ -1,12 +1,7 @@
+-- `evidence::collect::put_clash` meets its contract.
 use borrow.Author.Needs.{needs}
 use Rattle.evidence.proofs.collect.put_clash.Statement.{statement}
 use Rattle.evidence.proofs.collect.put_clash.Tie as tie
-use Rattle.evidence.proofs.collect.put_clash.Reads as reads
-use Rattle.evidence.proofs.collect.put_clash.Lts as lts
-use Rattle.evidence.proofs.collect.put_walks.Reads as put-walks-reads
-use Rattle.evidence.proofs.seek.put_walk.Reads as put-walk-reads
-use Rattle.reachable.proofs.steps.context.Reads as context-reads
-use Rattle.reachable.proofs.steps.wide.Reads as wide-reads
 use Rattle.evidence.proofs.Collecting.{side-laws, stored-laws}
 
 put-walk-requires : tie.Need-put-walk-requires

@@ -1,12 +1,7 @@
+-- `evidence::collect::put_dead` meets its contract.
 use borrow.Author.Needs.{needs}
 use Rattle.evidence.proofs.collect.put_dead.Statement.{statement}
 use Rattle.evidence.proofs.collect.put_dead.Tie as tie
-use Rattle.evidence.proofs.collect.put_dead.Reads as reads
-use Rattle.evidence.proofs.collect.put_dead.Lts as lts
-use Rattle.files.proofs.sets.lowest.Reads as lowest-reads
-use Rattle.evidence.proofs.choose.clash_rule.Reads as clash-rule-reads
-use Rattle.evidence.proofs.choose.clashes_from.Reads as clashes-from-reads
-use Rattle.evidence.proofs.collect.put_dead_by.Reads as put-dead-by-reads
 use Rattle.evidence.proofs.Choosing.{placed-laws}
 use Rattle.evidence.proofs.Collecting.{dead-laws}
 

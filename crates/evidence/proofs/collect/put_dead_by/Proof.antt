@@ -1,10 +1,8 @@
+-- `evidence::collect::put_dead_by` meets its contract.
 use borrow.Author.Needs.{needs}
 use native.Mathlib.Omega.{arith}
 use Rattle.evidence.proofs.collect.put_dead_by.Statement.{statement}
 use Rattle.evidence.proofs.collect.put_dead_by.Tie as tie
-use Rattle.evidence.proofs.collect.put_dead_by.Reads as reads
-use Rattle.evidence.proofs.collect.put_dead_by.Lts as lts
-use Rattle.evidence.proofs.collect.put_clash.Reads as put-clash-reads
 use Rattle.evidence.proofs.Collecting.{stored-laws}
 
 mul-numbers : tie.Need-mul-numbers

@@ -1,10 +1,7 @@
+-- `evidence::collect::put_direct` meets its contract.
 use borrow.Author.Needs.{needs}
 use Rattle.evidence.proofs.collect.put_direct.Statement.{statement}
 use Rattle.evidence.proofs.collect.put_direct.Tie as tie
-use Rattle.evidence.proofs.collect.put_direct.Reads as reads
-use Rattle.evidence.proofs.collect.put_direct.Lts as lts
-use Rattle.evidence.proofs.seek.put_walk.Reads as put-walk-reads
-use Rattle.reachable.proofs.steps.context.Reads as context-reads
 use Rattle.evidence.proofs.Collecting.{stored-laws}
 
 mul-numbers : tie.Need-mul-numbers

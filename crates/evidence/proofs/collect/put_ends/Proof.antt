@@ -1,11 +1,7 @@
+-- `evidence::collect::put_ends` meets its contract.
 use borrow.Author.Needs.{needs}
 use Rattle.evidence.proofs.collect.put_ends.Statement.{statement}
 use Rattle.evidence.proofs.collect.put_ends.Tie as tie
-use Rattle.evidence.proofs.collect.put_ends.Reads as reads
-use Rattle.evidence.proofs.collect.put_ends.Lts as lts
-use Rattle.evidence.proofs.collect.put_walks.Reads as put-walks-reads
-use Rattle.reachable.proofs.steps.context.Reads as context-reads
-use Rattle.reachable.proofs.steps.wide.Reads as wide-reads
 use Rattle.evidence.proofs.Collecting.{side-laws, stored-laws}
 
 element-copy-out-wide : tie.Need-element-copy-out-wide

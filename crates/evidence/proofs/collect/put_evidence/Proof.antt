@@ -1,10 +1,6 @@
+-- `evidence::collect::put_evidence` meets its contract.
 use Rattle.evidence.proofs.collect.put_evidence.Statement.{statement}
 use Rattle.evidence.proofs.collect.put_evidence.Tie as tie
-use Rattle.evidence.proofs.collect.put_evidence.Reads as reads
-use Rattle.evidence.proofs.collect.put_evidence.Lts as lts
-use Rattle.evidence.proofs.collect.put_absence.Reads as put-absence-reads
-use Rattle.evidence.proofs.collect.put_both.Reads as put-both-reads
-use Rattle.evidence.proofs.collect.put_implication.Reads as put-implication-reads
 use borrow.Author.Needs.{needs}
 use Rattle.evidence.proofs.Answering.{evidence-laws}
 

@@ -1,11 +1,7 @@
+-- `evidence::collect::put_implication` meets its contract.
 use borrow.Author.Needs.{needs}
 use Rattle.evidence.proofs.collect.put_implication.Statement.{statement}
 use Rattle.evidence.proofs.collect.put_implication.Tie as tie
-use Rattle.evidence.proofs.collect.put_implication.Reads as reads
-use Rattle.evidence.proofs.collect.put_implication.Lts as lts
-use Rattle.evidence.proofs.collect.is_direct.Reads as is-direct-reads
-use Rattle.evidence.proofs.collect.put_dead.Reads as put-dead-reads
-use Rattle.evidence.proofs.collect.put_direct.Reads as put-direct-reads
 use Rattle.evidence.proofs.Collecting.{implication-laws}
 
 is-direct-requires : tie.Need-is-direct-requires

@@ -1,12 +1,7 @@
+-- `evidence::collect::put_least_pair` meets its contract.
 use borrow.Author.Needs.{needs}
 use Rattle.evidence.proofs.collect.put_least_pair.Statement.{statement}
 use Rattle.evidence.proofs.collect.put_least_pair.Tie as tie
-use Rattle.evidence.proofs.collect.put_least_pair.Reads as reads
-use Rattle.evidence.proofs.collect.put_least_pair.Lts as lts
-use Rattle.evidence.proofs.choose.pair_rule.Reads as pair-rule-reads
-use Rattle.evidence.proofs.choose.pair_side.Reads as pair-side-reads
-use Rattle.evidence.proofs.collect.put_pair.Reads as put-pair-reads
-use Rattle.reachable.proofs.steps.context.Reads as context-reads
 use Rattle.evidence.proofs.Collecting.{least-pair-laws}
 
 context-requires : tie.Need-context-requires

@@ -1,10 +1,8 @@
+-- `evidence::collect::put_pair` meets its contract.
 use borrow.Author.Needs.{needs}
 use native.Mathlib.Omega.{arith}
 use Rattle.evidence.proofs.collect.put_pair.Statement.{statement}
 use Rattle.evidence.proofs.collect.put_pair.Tie as tie
-use Rattle.evidence.proofs.collect.put_pair.Reads as reads
-use Rattle.evidence.proofs.collect.put_pair.Lts as lts
-use Rattle.evidence.proofs.collect.put_ends.Reads as put-ends-reads
 use Rattle.evidence.proofs.Collecting.{stored-laws}
 
 mul-numbers : tie.Need-mul-numbers

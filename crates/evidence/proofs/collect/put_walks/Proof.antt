@@ -1,9 +1,7 @@
+-- `evidence::collect::put_walks` meets its contract.
 use borrow.Author.Needs.{needs}
 use Rattle.evidence.proofs.collect.put_walks.Statement.{statement}
 use Rattle.evidence.proofs.collect.put_walks.Tie as tie
-use Rattle.evidence.proofs.collect.put_walks.Reads as reads
-use Rattle.evidence.proofs.collect.put_walks.Lts as lts
-use Rattle.evidence.proofs.seek.put_walk.Reads as put-walk-reads
 use Rattle.evidence.proofs.Collecting.{stored-laws}
 
 put-walk-requires : tie.Need-put-walk-requires

@@ -1,8 +1,6 @@
+-- `evidence::seek::go_on` meets its contract.
 use Rattle.evidence.proofs.seek.go_on.Statement.{statement}
 use Rattle.evidence.proofs.seek.go_on.Tie as tie
-use Rattle.evidence.proofs.seek.go_on.Reads as reads
-use Rattle.evidence.proofs.seek.go_on.Lts as lts
-use Rattle.evidence.proofs.seek.least_move.Reads as least-move-reads
 use borrow.Author.Needs.{needs}
 use Prim.Native.Nat.{_+_, _≤_, _<_}
 use mathlib.Core.Path.{_≡_}

@@ -1,9 +1,7 @@
+-- `evidence::seek::into` meets its contract.
 use borrow.Author.Needs.{needs}
 use Rattle.evidence.proofs.seek.into.Statement.{statement}
 use Rattle.evidence.proofs.seek.into.Tie as tie
-use Rattle.evidence.proofs.seek.into.Reads as reads
-use Rattle.evidence.proofs.seek.into.Lts as lts
-use Rattle.files.proofs.sets.has.Reads as has-reads
 use Rattle.evidence.proofs.Seeking.{into-laws}
 
 has-requires : tie.Need-has-requires

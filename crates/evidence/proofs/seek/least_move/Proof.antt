@@ -1,11 +1,7 @@
+-- `evidence::seek::least_move` meets its contract.
 use borrow.Author.Needs.{needs}
 use Rattle.evidence.proofs.seek.least_move.Statement.{statement}
 use Rattle.evidence.proofs.seek.least_move.Tie as tie
-use Rattle.evidence.proofs.seek.least_move.Reads as reads
-use Rattle.evidence.proofs.seek.least_move.Lts as lts
-use Rattle.files.proofs.sets.has.Reads as has-reads
-use Rattle.evidence.proofs.seek.rule_move.Reads as rule-move-reads
-use Rattle.reachable.proofs.steps.parent_of.Reads as parent-of-reads
 use Rattle.evidence.proofs.Seeking.{least-laws}
 
 rule-move-requires : tie.Need-rule-move-requires

@@ -1,12 +1,7 @@
+-- `evidence::seek::put_walk` meets its contract.
 use borrow.Author.Needs.{needs}
 use Rattle.evidence.proofs.seek.put_walk.Statement.{statement}
 use Rattle.evidence.proofs.seek.put_walk.Tie as tie
-use Rattle.evidence.proofs.seek.put_walk.Reads as reads
-use Rattle.evidence.proofs.seek.put_walk.Lts as lts
-use Rattle.evidence.proofs.seek.go_on.Reads as go-on-reads
-use Rattle.evidence.proofs.seek.seek.Reads as seek-reads
-use Rattle.reachable.proofs.steps.alone.Reads as alone-reads
-use Rattle.reachable.proofs.steps.subtree.Reads as subtree-reads
 use Rattle.evidence.proofs.Seeking.{walk-laws}
 
 subtree-requires : tie.Need-subtree-requires

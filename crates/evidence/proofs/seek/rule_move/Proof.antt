@@ -1,9 +1,6 @@
+-- `evidence::seek::rule_move` meets its contract.
 use Rattle.evidence.proofs.seek.rule_move.Statement.{statement}
 use Rattle.evidence.proofs.seek.rule_move.Tie as tie
-use Rattle.evidence.proofs.seek.rule_move.Reads as reads
-use Rattle.evidence.proofs.seek.rule_move.Lts as lts
-use Rattle.evidence.proofs.seek.turn.Reads as turn-reads
-use Rattle.reachable.proofs.steps.wide.Reads as wide-reads
 use borrow.Author.Needs.{needs}
 use Prim.Native.Nat.{_-_}
 use mathlib.Core.Path.{_≡_}

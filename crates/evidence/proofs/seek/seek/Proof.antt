@@ -1,9 +1,6 @@
+-- `evidence::seek::seek` meets its contract.
 use Rattle.evidence.proofs.seek.seek.Statement.{statement}
 use Rattle.evidence.proofs.seek.seek.Tie as tie
-use Rattle.evidence.proofs.seek.seek.Reads as reads
-use Rattle.evidence.proofs.seek.seek.Lts as lts
-use Rattle.files.proofs.sets.has.Reads as has-reads
-use Rattle.reachable.proofs.steps.one_step.Reads as one-step-reads
 use borrow.Author.Needs.{needs}
 use Prim.Native.Nat.{_-_, _≤_}
 use mathlib.Core.Path.{_≡_}

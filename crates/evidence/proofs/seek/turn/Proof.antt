@@ -1,9 +1,7 @@
+-- `evidence::seek::turn` meets its contract.
 use borrow.Author.Needs.{needs}
 use Rattle.evidence.proofs.seek.turn.Statement.{statement}
 use Rattle.evidence.proofs.seek.turn.Tie as tie
-use Rattle.evidence.proofs.seek.turn.Reads as reads
-use Rattle.evidence.proofs.seek.turn.Lts as lts
-use Rattle.evidence.proofs.seek.into.Reads as into-reads
 use Rattle.evidence.proofs.Seeking.{turn-laws}
 
 into-requires : tie.Need-into-requires

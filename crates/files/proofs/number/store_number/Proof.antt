@@ -2,8 +2,6 @@
 use borrow.Author.Needs.{needs}
 use Rattle.files.proofs.number.store_number.Statement.{statement}
 use Rattle.files.proofs.number.store_number.Tie as tie
-use Rattle.files.proofs.number.store_number.Reads as reads
-use Rattle.files.proofs.number.store_number.Lts as lts
 use Rattle.files.proofs.Stores.{stored-laws}
 
 cast-out : tie.Need-cast-out

@@ -1,9 +1,7 @@
+-- `files::read::accept` meets its contract.
 use borrow.Author.Needs.{needs}
 use Rattle.files.proofs.read.accept.Statement.{statement}
 use Rattle.files.proofs.read.accept.Tie as tie
-use Rattle.files.proofs.read.accept.Reads as reads
-use Rattle.files.proofs.read.accept.Lts as lts
-use Rattle.files.proofs.read.refuse.Reads as refuse-reads
 use Rattle.files.proofs.ReaderFile.{accept-left, accept-is}
 
 refuse-requires : tie.Need-refuse-requires

@@ -1,7 +1,6 @@
+-- `files::read::between` meets its contract.
 use Rattle.files.proofs.read.between.Statement.{statement}
 use Rattle.files.proofs.read.between.Tie as tie
-use Rattle.files.proofs.read.between.Reads as reads
-use Rattle.files.proofs.read.between.Lts as lts
 use borrow.Author.Needs.{needs}
 use Rattle.files.proofs.Reader.{between-laws}
 

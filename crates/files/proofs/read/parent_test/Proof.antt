@@ -1,10 +1,7 @@
+-- `files::read::parent_test` meets its contract.
 use borrow.Author.Needs.{needs}
 use Rattle.files.proofs.read.parent_test.Statement.{statement}
 use Rattle.files.proofs.read.parent_test.Tie as tie
-use Rattle.files.proofs.read.parent_test.Reads as reads
-use Rattle.files.proofs.read.parent_test.Lts as lts
-use Rattle.files.proofs.number.wide.Reads as wide-reads
-use Rattle.files.proofs.number.wide_number.Reads as wide-number-reads
 use Rattle.files.proofs.Reader.{parent-laws}
 
 wide-number-requires : tie.Need-wide-number-requires

@@ -1,7 +1,6 @@
+-- `files::read::passed` meets its contract.
 use Rattle.files.proofs.read.passed.Statement.{statement}
 use Rattle.files.proofs.read.passed.Tie as tie
-use Rattle.files.proofs.read.passed.Reads as reads
-use Rattle.files.proofs.read.passed.Lts as lts
 use borrow.Author.Needs.{needs}
 use Rattle.files.proofs.Reader.{passed-laws}
 

@@ -1,11 +1,7 @@
+-- `files::read::read_between` meets its contract.
 use borrow.Author.Needs.{needs}
 use Rattle.files.proofs.read.read_between.Statement.{statement}
 use Rattle.files.proofs.read.read_between.Tie as tie
-use Rattle.files.proofs.read.read_between.Reads as reads
-use Rattle.files.proofs.read.read_between.Lts as lts
-use Rattle.files.proofs.number.read_number.Reads as read-number-reads
-use Rattle.files.proofs.read.between.Reads as between-reads
-use Rattle.files.proofs.read.passed.Reads as passed-reads
 use Rattle.files.proofs.Reader.{tested-laws}
 
 read-number-requires : tie.Need-read-number-requires

@@ -1,11 +1,7 @@
+-- `files::read::read_label` meets its contract.
 use borrow.Author.Needs.{needs}
 use Rattle.files.proofs.read.read_label.Statement.{statement}
 use Rattle.files.proofs.read.read_label.Tie as tie
-use Rattle.files.proofs.read.read_label.Reads as reads
-use Rattle.files.proofs.read.read_label.Lts as lts
-use Rattle.files.proofs.number.read_number.Reads as read-number-reads
-use Rattle.files.proofs.read.repeats.Reads as repeats-reads
-use Rattle.files.proofs.number.wide_number.Reads as wide-number-reads
 use Rattle.files.proofs.Reader.{label-laws}
 
 read-number-requires : tie.Need-read-number-requires

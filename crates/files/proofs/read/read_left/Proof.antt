@@ -1,10 +1,7 @@
+-- `files::read::read_left` meets its contract.
 use borrow.Author.Needs.{needs}
 use Rattle.files.proofs.read.read_left.Statement.{statement}
 use Rattle.files.proofs.read.read_left.Tie as tie
-use Rattle.files.proofs.read.read_left.Reads as reads
-use Rattle.files.proofs.read.read_left.Lts as lts
-use Rattle.files.proofs.read.read_between.Reads as read-between-reads
-use Rattle.files.proofs.read.read_right.Reads as read-right-reads
 use Rattle.files.proofs.ReaderRules.{rule-laws}
 
 read-between-requires : tie.Need-read-between-requires

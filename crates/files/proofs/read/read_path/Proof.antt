@@ -1,11 +1,7 @@
+-- `files::read::read_path` meets its contract.
 use borrow.Author.Needs.{needs}
 use Rattle.files.proofs.read.read_path.Statement.{statement}
 use Rattle.files.proofs.read.read_path.Tie as tie
-use Rattle.files.proofs.read.read_path.Reads as reads
-use Rattle.files.proofs.read.read_path.Lts as lts
-use Rattle.files.proofs.number.read_number.Reads as read-number-reads
-use Rattle.files.proofs.read.parent_test.Reads as parent-test-reads
-use Rattle.files.proofs.read.read_label.Reads as read-label-reads
 use Rattle.files.proofs.Reader.{path-laws}
 
 read-number-requires : tie.Need-read-number-requires

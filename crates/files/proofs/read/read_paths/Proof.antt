@@ -1,8 +1,6 @@
+-- `files::read::read_paths` meets its contract.
 use Rattle.files.proofs.read.read_paths.Statement.{statement}
 use Rattle.files.proofs.read.read_paths.Tie as tie
-use Rattle.files.proofs.read.read_paths.Reads as reads
-use Rattle.files.proofs.read.read_paths.Lts as lts
-use Rattle.files.proofs.read.read_path.Reads as read-path-reads
 use borrow.Author.Needs.{needs}
 use Prim.Native.Nat.{_-_}
 use Rattle.files.proofs.ReaderPaths.{PathsSoFar, paths-laws}

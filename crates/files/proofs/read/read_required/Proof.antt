@@ -1,10 +1,6 @@
+-- `files::read::read_required` meets its contract.
 use Rattle.files.proofs.read.read_required.Statement.{statement}
 use Rattle.files.proofs.read.read_required.Tie as tie
-use Rattle.files.proofs.read.read_required.Reads as reads
-use Rattle.files.proofs.read.read_required.Lts as lts
-use Rattle.files.proofs.read.read_between.Reads as read-between-reads
-use Rattle.files.proofs.number.wide_number.Reads as wide-number-reads
-use Rattle.files.proofs.sets.with.Reads as with-reads
 use borrow.Author.Needs.{needs}
 use Rattle.files.proofs.ReaderRules.{RequiredSoFar, required-laws}
 

@@ -1,11 +1,7 @@
+-- `files::read::read_required_count` meets its contract.
 use borrow.Author.Needs.{needs}
 use Rattle.files.proofs.read.read_required_count.Statement.{statement}
 use Rattle.files.proofs.read.read_required_count.Tie as tie
-use Rattle.files.proofs.read.read_required_count.Reads as reads
-use Rattle.files.proofs.read.read_required_count.Lts as lts
-use Rattle.files.proofs.number.read_number.Reads as read-number-reads
-use Rattle.files.proofs.read.read_required_paths.Reads as read-required-paths-reads
-use Rattle.files.proofs.read.refuse.Reads as refuse-reads
 use Rattle.files.proofs.ReaderFile.{file-laws}
 
 read-number-requires : tie.Need-read-number-requires

@@ -1,11 +1,7 @@
+-- `files::read::read_required_paths` meets its contract.
 use borrow.Author.Needs.{needs}
 use Rattle.files.proofs.read.read_required_paths.Statement.{statement}
 use Rattle.files.proofs.read.read_required_paths.Tie as tie
-use Rattle.files.proofs.read.read_required_paths.Reads as reads
-use Rattle.files.proofs.read.read_required_paths.Lts as lts
-use Rattle.files.proofs.read.read_required.Reads as read-required-reads
-use Rattle.files.proofs.read.read_rule_count.Reads as read-rule-count-reads
-use Rattle.files.proofs.read.refuse.Reads as refuse-reads
 use Rattle.files.proofs.ReaderFile.{file-laws}
 
 read-required-requires : tie.Need-read-required-requires

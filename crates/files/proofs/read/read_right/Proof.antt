@@ -1,9 +1,7 @@
+-- `files::read::read_right` meets its contract.
 use borrow.Author.Needs.{needs}
 use Rattle.files.proofs.read.read_right.Statement.{statement}
 use Rattle.files.proofs.read.read_right.Tie as tie
-use Rattle.files.proofs.read.read_right.Reads as reads
-use Rattle.files.proofs.read.read_right.Lts as lts
-use Rattle.files.proofs.read.read_between.Reads as read-between-reads
 use Rattle.files.proofs.ReaderRules.{rule-laws}
 
 read-between-requires : tie.Need-read-between-requires

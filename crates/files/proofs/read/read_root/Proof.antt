@@ -1,11 +1,7 @@
+-- `files::read::read_root` meets its contract.
 use borrow.Author.Needs.{needs}
 use Rattle.files.proofs.read.read_root.Statement.{statement}
 use Rattle.files.proofs.read.read_root.Tie as tie
-use Rattle.files.proofs.read.read_root.Reads as reads
-use Rattle.files.proofs.read.read_root.Lts as lts
-use Rattle.files.proofs.number.read_number.Reads as read-number-reads
-use Rattle.files.proofs.read.read_table.Reads as read-table-reads
-use Rattle.files.proofs.read.refuse.Reads as refuse-reads
 use Rattle.files.proofs.ReaderFile.{file-laws}
 
 read-number-requires : tie.Need-read-number-requires

@@ -1,10 +1,7 @@
+-- `files::read::read_rule` meets its contract.
 use borrow.Author.Needs.{needs}
 use Rattle.files.proofs.read.read_rule.Statement.{statement}
 use Rattle.files.proofs.read.read_rule.Tie as tie
-use Rattle.files.proofs.read.read_rule.Reads as reads
-use Rattle.files.proofs.read.read_rule.Lts as lts
-use Rattle.files.proofs.read.read_between.Reads as read-between-reads
-use Rattle.files.proofs.read.read_left.Reads as read-left-reads
 use Rattle.files.proofs.ReaderRules.{rule-laws}
 
 read-between-requires : tie.Need-read-between-requires

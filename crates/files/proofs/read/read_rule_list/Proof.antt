@@ -1,8 +1,6 @@
+-- `files::read::read_rule_list` meets its contract.
 use Rattle.files.proofs.read.read_rule_list.Statement.{statement}
 use Rattle.files.proofs.read.read_rule_list.Tie as tie
-use Rattle.files.proofs.read.read_rule_list.Reads as reads
-use Rattle.files.proofs.read.read_rule_list.Lts as lts
-use Rattle.files.proofs.read.read_rule.Reads as read-rule-reads
 use borrow.Author.Needs.{needs}
 use Prim.Native.Nat.{_-_}
 use Rattle.files.proofs.ReaderRules.{RulesSoFar, rules-laws}

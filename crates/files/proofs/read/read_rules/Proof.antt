@@ -1,11 +1,7 @@
+-- `files::read::read_rules` meets its contract.
 use borrow.Author.Needs.{needs}
 use Rattle.files.proofs.read.read_rules.Statement.{statement}
 use Rattle.files.proofs.read.read_rules.Tie as tie
-use Rattle.files.proofs.read.read_rules.Reads as reads
-use Rattle.files.proofs.read.read_rules.Lts as lts
-use Rattle.files.proofs.read.read_between.Reads as read-between-reads
-use Rattle.files.proofs.read.read_root.Reads as read-root-reads
-use Rattle.files.proofs.read.refuse.Reads as refuse-reads
 use native.Mathlib.Omega.{arith}
 use Rattle.files.proofs.ReaderFile.{file-laws}
 use Rattle.files.proofs.ReadingJoins.{reads-bytes}

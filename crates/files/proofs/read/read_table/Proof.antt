@@ -1,12 +1,7 @@
+-- `files::read::read_table` meets its contract.
 use borrow.Author.Needs.{needs}
 use Rattle.files.proofs.read.read_table.Statement.{statement}
 use Rattle.files.proofs.read.read_table.Tie as tie
-use Rattle.files.proofs.read.read_table.Reads as reads
-use Rattle.files.proofs.read.read_table.Lts as lts
-use Rattle.files.proofs.read.read_paths.Reads as read-paths-reads
-use Rattle.files.proofs.read.read_required_count.Reads as read-required-count-reads
-use Rattle.files.proofs.read.refuse.Reads as refuse-reads
-use Rattle.files.proofs.number.wide_number.Reads as wide-number-reads
 use Rattle.files.proofs.ReaderFile.{file-laws}
 
 wide-number-requires : tie.Need-wide-number-requires

@@ -1,12 +1,7 @@
+-- `files::read::read_to_end` meets its contract.
 use borrow.Author.Needs.{needs}
 use Rattle.files.proofs.read.read_to_end.Statement.{statement}
 use Rattle.files.proofs.read.read_to_end.Tie as tie
-use Rattle.files.proofs.read.read_to_end.Reads as reads
-use Rattle.files.proofs.read.read_to_end.Lts as lts
-use Rattle.files.proofs.read.accept.Reads as accept-reads
-use Rattle.files.proofs.read.read_rule_list.Reads as read-rule-list-reads
-use Rattle.files.proofs.read.refuse.Reads as refuse-reads
-use Rattle.files.proofs.number.wide_number.Reads as wide-number-reads
 use Rattle.files.proofs.ReaderFile.{end-laws}
 
 read-rule-list-requires : tie.Need-read-rule-list-requires

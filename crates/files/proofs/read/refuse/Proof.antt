@@ -1,7 +1,6 @@
+-- `files::read::refuse` meets its contract.
 use Rattle.files.proofs.read.refuse.Statement.{statement}
 use Rattle.files.proofs.read.refuse.Tie as tie
-use Rattle.files.proofs.read.refuse.Reads as reads
-use Rattle.files.proofs.read.refuse.Lts as lts
 use borrow.Author.Needs.{needs}
 use Rattle.files.proofs.ReaderFile.{refuse-is}
 

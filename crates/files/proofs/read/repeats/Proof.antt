@@ -1,9 +1,6 @@
+-- `files::read::repeats` meets its contract.
 use Rattle.files.proofs.read.repeats.Statement.{statement}
 use Rattle.files.proofs.read.repeats.Tie as tie
-use Rattle.files.proofs.read.repeats.Reads as reads
-use Rattle.files.proofs.read.repeats.Lts as lts
-use Rattle.files.proofs.read.same_child.Reads as same-child-reads
-use Rattle.files.proofs.number.wide32.Reads as wide32-reads
 use borrow.Author.Needs.{needs}
 use Prim.Native.Nat.{_≤_, _-_}
 use mathlib.Core.Path.{_≡_}

@@ -1,7 +1,6 @@
+-- `files::read::same_child` meets its contract.
 use Rattle.files.proofs.read.same_child.Statement.{statement}
 use Rattle.files.proofs.read.same_child.Tie as tie
-use Rattle.files.proofs.read.same_child.Reads as reads
-use Rattle.files.proofs.read.same_child.Lts as lts
 use borrow.Author.Needs.{needs}
 use Rattle.files.proofs.Reader.{child-laws}
 

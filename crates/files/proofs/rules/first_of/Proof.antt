@@ -1,7 +1,6 @@
+-- `files::rules::first_of` meets its contract.
 use Rattle.files.proofs.rules.first_of.Statement.{statement}
 use Rattle.files.proofs.rules.first_of.Tie as tie
-use Rattle.files.proofs.rules.first_of.Reads as reads
-use Rattle.files.proofs.rules.first_of.Lts as lts
 use borrow.Author.Needs.{needs}
 use Rattle.files.proofs.Tables.{first-small, first-large}
 

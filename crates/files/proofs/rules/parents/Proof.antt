@@ -1,8 +1,6 @@
+-- `files::rules::parents` meets its contract.
 use Rattle.files.proofs.rules.parents.Statement.{statement}
 use Rattle.files.proofs.rules.parents.Tie as tie
-use Rattle.files.proofs.rules.parents.Reads as reads
-use Rattle.files.proofs.rules.parents.Lts as lts
-use Rattle.files.proofs.rules.first_of.Reads as first-of-reads
 use borrow.Author.Needs.{needs}
 use Prim.Native.Nat.{_-_}
 use Rattle.files.proofs.Tables.{ParentsSoFar, parents-laws}

@@ -1,4 +1,4 @@
--- `reasoning::document::emit_document` meets its contract: the part count, then the parts.
+-- `handed::document::emit_document` meets its contract: the part count, then the parts.
 use borrow.Author.Needs.{needs}
 use Rattle.handed.proofs.document.emit_document.Statement.{statement}
 use Rattle.handed.proofs.document.emit_document.Tie as tie

@@ -1,4 +1,4 @@
--- `reasoning::document::emit_layers` meets its contract: layer by layer, what remains is the whole.
+-- `handed::document::emit_layers` meets its contract: layer by layer, what remains is the whole.
 use Rattle.handed.proofs.document.emit_layers.Statement.{statement}
 use Rattle.handed.proofs.document.emit_layers.Tie as tie
 use borrow.Author.Needs.{needs}

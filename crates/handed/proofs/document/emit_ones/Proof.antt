@@ -1,4 +1,4 @@
--- `reasoning::document::emit_ones` meets its contract: what is emitted and what remains is the whole.
+-- `handed::document::emit_ones` meets its contract: what is emitted and what remains is the whole.
 use Rattle.handed.proofs.document.emit_ones.Statement.{statement}
 use Rattle.handed.proofs.document.emit_ones.Tie as tie
 use borrow.Author.Needs.{needs}

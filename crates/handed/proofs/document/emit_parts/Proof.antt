@@ -1,4 +1,4 @@
--- `reasoning::document::emit_parts` meets its contract: two pieces, one after the other.
+-- `handed::document::emit_parts` meets its contract: two pieces, one after the other.
 use borrow.Author.Needs.{needs}
 use Rattle.handed.proofs.document.emit_parts.Statement.{statement}
 use Rattle.handed.proofs.document.emit_parts.Tie as tie

@@ -1,4 +1,4 @@
--- `reasoning::document::emit_whole_part` meets its contract: one part or none.
+-- `handed::document::emit_whole_part` meets its contract: one part or none.
 use borrow.Author.Needs.{needs}
 use Rattle.handed.proofs.document.emit_whole_part.Statement.{statement}
 use Rattle.handed.proofs.document.emit_whole_part.Tie as tie

@@ -1,4 +1,4 @@
--- `reasoning::document::write_document` meets its contract: the numbers emitted are those of the document.
+-- `handed::document::write_document` meets its contract: the numbers emitted are those of the document.
 use borrow.Author.Needs.{needs}
 use Rattle.handed.proofs.document.write_document.Statement.{statement}
 use Rattle.handed.proofs.document.write_document.Tie as tie

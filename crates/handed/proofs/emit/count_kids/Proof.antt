@@ -1,4 +1,4 @@
--- `reasoning::emit::count_kids` meets its contract: what is counted and what remains is the whole.
+-- `handed::emit::count_kids` meets its contract: what is counted and what remains is the whole.
 use Rattle.handed.proofs.emit.count_kids.Statement.{statement}
 use Rattle.handed.proofs.emit.count_kids.Tie as tie
 use borrow.Author.Needs.{needs}

@@ -1,4 +1,4 @@
--- `reasoning::emit::count_kids_under` meets its contract: the part with all goals and the one-goal parts.
+-- `handed::emit::count_kids_under` meets its contract: the part with all goals and the one-goal parts.
 use borrow.Author.Needs.{needs}
 use Rattle.handed.proofs.emit.count_kids_under.Statement.{statement}
 use Rattle.handed.proofs.emit.count_kids_under.Tie as tie

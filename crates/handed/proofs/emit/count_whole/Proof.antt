@@ -1,4 +1,4 @@
--- `reasoning::emit::count_whole` meets its contract: one or none.
+-- `handed::emit::count_whole` meets its contract: one or none.
 use borrow.Author.Needs.{needs}
 use Rattle.handed.proofs.emit.count_whole.Statement.{statement}
 use Rattle.handed.proofs.emit.count_whole.Tie as tie

@@ -1,4 +1,4 @@
--- `reasoning::emit::emit` meets its contract: its bytes are counted, or stored too.
+-- `handed::emit::emit` meets its contract: its bytes are counted, or stored too.
 use borrow.Author.Needs.{needs}
 use Rattle.handed.proofs.emit.emit.Statement.{statement}
 use Rattle.handed.proofs.emit.emit.Tie as tie

@@ -1,4 +1,4 @@
--- `reasoning::emit::emit_goals` meets its contract: what is emitted and what remains is the whole.
+-- `handed::emit::emit_goals` meets its contract: what is emitted and what remains is the whole.
 use Rattle.handed.proofs.emit.emit_goals.Statement.{statement}
 use Rattle.handed.proofs.emit.emit_goals.Tie as tie
 use borrow.Author.Needs.{needs}

@@ -1,4 +1,4 @@
--- `reasoning::emit::emit_kids` meets its contract: what is emitted and what remains is the whole.
+-- `handed::emit::emit_kids` meets its contract: what is emitted and what remains is the whole.
 use Rattle.handed.proofs.emit.emit_kids.Statement.{statement}
 use Rattle.handed.proofs.emit.emit_kids.Tie as tie
 use borrow.Author.Needs.{needs}

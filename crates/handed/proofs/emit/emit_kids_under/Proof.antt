@@ -1,4 +1,4 @@
--- `reasoning::emit::emit_kids_under` meets its contract: two pieces, one after the other.
+-- `handed::emit::emit_kids_under` meets its contract: two pieces, one after the other.
 use Rattle.handed.proofs.emit.emit_kids_under.Statement.{statement}
 use Rattle.handed.proofs.emit.emit_kids_under.Tie as tie
 use borrow.Author.Needs.{needs}

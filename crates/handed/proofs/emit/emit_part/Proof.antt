@@ -1,4 +1,4 @@
--- `reasoning::emit::emit_part` meets its contract: three pieces, one after the other.
+-- `handed::emit::emit_part` meets its contract: three pieces, one after the other.
 use borrow.Author.Needs.{needs}
 use Rattle.handed.proofs.emit.emit_part.Statement.{statement}
 use Rattle.handed.proofs.emit.emit_part.Tie as tie

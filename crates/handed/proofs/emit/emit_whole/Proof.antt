@@ -1,4 +1,4 @@
--- `reasoning::emit::emit_whole` meets its contract: one number or none.
+-- `handed::emit::emit_whole` meets its contract: one number or none.
 use borrow.Author.Needs.{needs}
 use Rattle.handed.proofs.emit.emit_whole.Statement.{statement}
 use Rattle.handed.proofs.emit.emit_whole.Tie as tie

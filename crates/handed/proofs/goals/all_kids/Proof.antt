@@ -1,4 +1,4 @@
--- `reasoning::goals::all_kids` meets its contract: all goals.
+-- `handed::goals::all_kids` meets its contract: all goals.
 use borrow.Author.Needs.{needs}
 use Rattle.handed.proofs.goals.all_kids.Statement.{statement}
 use Rattle.handed.proofs.goals.all_kids.Tie as tie

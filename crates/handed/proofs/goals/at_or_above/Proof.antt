@@ -1,4 +1,4 @@
--- `reasoning::goals::at_or_above` meets its contract: the paths still to climb.
+-- `handed::goals::at_or_above` meets its contract: the paths still to climb.
 use Rattle.handed.proofs.goals.at_or_above.Statement.{statement}
 use Rattle.handed.proofs.goals.at_or_above.Tie as tie
 use borrow.Author.Needs.{needs}

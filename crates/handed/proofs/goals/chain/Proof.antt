@@ -1,4 +1,4 @@
--- `reasoning::goals::chain` meets its contract: several goals or one.
+-- `handed::goals::chain` meets its contract: several goals or one.
 use borrow.Author.Needs.{needs}
 use Rattle.handed.proofs.goals.chain.Statement.{statement}
 use Rattle.handed.proofs.goals.chain.Tie as tie

@@ -1,4 +1,4 @@
--- `reasoning::goals::cover_each` meets its contract: what is gathered and what remains is the whole.
+-- `handed::goals::cover_each` meets its contract: what is gathered and what remains is the whole.
 use Rattle.handed.proofs.goals.cover_each.Statement.{statement}
 use Rattle.handed.proofs.goals.cover_each.Tie as tie
 use borrow.Author.Needs.{needs}

@@ -1,4 +1,4 @@
--- `reasoning::goals::covered` meets its contract: the child path first.
+-- `handed::goals::covered` meets its contract: the child path first.
 use borrow.Author.Needs.{needs}
 use Rattle.handed.proofs.goals.covered.Statement.{statement}
 use Rattle.handed.proofs.goals.covered.Tie as tie

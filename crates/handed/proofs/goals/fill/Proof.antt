@@ -1,4 +1,4 @@
--- `reasoning::goals::fill` meets its contract: the highest path left gets a child.
+-- `handed::goals::fill` meets its contract: the highest path left gets a child.
 use Rattle.handed.proofs.goals.fill.Statement.{statement}
 use Rattle.handed.proofs.goals.fill.Tie as tie
 use borrow.Author.Needs.{needs}

@@ -1,4 +1,4 @@
--- `reasoning::goals::gather_kids` meets its contract: what is gathered and what remains is the whole.
+-- `handed::goals::gather_kids` meets its contract: what is gathered and what remains is the whole.
 use Rattle.handed.proofs.goals.gather_kids.Statement.{statement}
 use Rattle.handed.proofs.goals.gather_kids.Tie as tie
 use borrow.Author.Needs.{needs}

@@ -1,4 +1,4 @@
--- `reasoning::goals::goal_rows` meets its contract: the goals on the paths passed, and what remains.
+-- `handed::goals::goal_rows` meets its contract: the goals on the paths passed, and what remains.
 use Rattle.handed.proofs.goals.goal_rows.Statement.{statement}
 use Rattle.handed.proofs.goals.goal_rows.Tie as tie
 use borrow.Author.Needs.{needs}

@@ -1,4 +1,4 @@
--- `reasoning::goals::goals_on` meets its contract: the root, or a path under its parent.
+-- `handed::goals::goals_on` meets its contract: the root, or a path under its parent.
 use borrow.Author.Needs.{needs}
 use Rattle.handed.proofs.goals.goals_on.Statement.{statement}
 use Rattle.handed.proofs.goals.goals_on.Tie as tie

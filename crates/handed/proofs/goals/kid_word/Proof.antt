@@ -1,4 +1,4 @@
--- `reasoning::goals::kid_word` meets its contract: what no child covers yet is filled.
+-- `handed::goals::kid_word` meets its contract: what no child covers yet is filled.
 use borrow.Author.Needs.{needs}
 use Rattle.handed.proofs.goals.kid_word.Statement.{statement}
 use Rattle.handed.proofs.goals.kid_word.Tie as tie

@@ -1,4 +1,4 @@
--- `reasoning::goals::kids_at` meets its contract: with or without the part that has all goals.
+-- `handed::goals::kids_at` meets its contract: with or without the part that has all goals.
 use borrow.Author.Needs.{needs}
 use Rattle.handed.proofs.goals.kids_at.Statement.{statement}
 use Rattle.handed.proofs.goals.kids_at.Tie as tie

@@ -1,4 +1,4 @@
--- `reasoning::goals::one_kids` meets its contract: one goal.
+-- `handed::goals::one_kids` meets its contract: one goal.
 use borrow.Author.Needs.{needs}
 use Rattle.handed.proofs.goals.one_kids.Statement.{statement}
 use Rattle.handed.proofs.goals.one_kids.Tie as tie

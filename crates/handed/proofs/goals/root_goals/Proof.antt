@@ -1,4 +1,4 @@
--- `reasoning::goals::root_goals` meets its contract: several goals or one.
+-- `handed::goals::root_goals` meets its contract: several goals or one.
 use borrow.Author.Needs.{needs}
 use Rattle.handed.proofs.goals.root_goals.Statement.{statement}
 use Rattle.handed.proofs.goals.root_goals.Tie as tie

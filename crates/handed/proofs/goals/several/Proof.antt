@@ -1,4 +1,4 @@
--- `reasoning::goals::several` meets its contract: something is left without the least.
+-- `handed::goals::several` meets its contract: something is left without the least.
 use borrow.Author.Needs.{needs}
 use Rattle.handed.proofs.goals.several.Statement.{statement}
 use Rattle.handed.proofs.goals.several.Tie as tie

@@ -1,4 +1,4 @@
--- `reasoning::goals::towards` meets its contract: the climbs still to make.
+-- `handed::goals::towards` meets its contract: the climbs still to make.
 use Rattle.handed.proofs.goals.towards.Statement.{statement}
 use Rattle.handed.proofs.goals.towards.Tie as tie
 use borrow.Author.Needs.{needs}

@@ -1,4 +1,4 @@
--- `reasoning::goals::word_for` meets its contract: of paths of the table.
+-- `handed::goals::word_for` meets its contract: of paths of the table.
 use Rattle.handed.proofs.goals.word_for.Statement.{statement}
 use Rattle.handed.proofs.goals.word_for.Tie as tie
 use borrow.Author.Needs.{needs}

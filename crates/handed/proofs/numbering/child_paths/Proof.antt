@@ -1,4 +1,4 @@
--- `reasoning::numbering::child_paths` meets its contract: the paths passed.
+-- `handed::numbering::child_paths` meets its contract: the paths passed.
 use Rattle.handed.proofs.numbering.child_paths.Statement.{statement}
 use Rattle.handed.proofs.numbering.child_paths.Tie as tie
 use borrow.Author.Needs.{needs}

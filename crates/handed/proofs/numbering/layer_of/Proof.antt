@@ -1,4 +1,4 @@
--- `reasoning::numbering::layer_of` meets its contract: the paths passed.
+-- `handed::numbering::layer_of` meets its contract: the paths passed.
 use Rattle.handed.proofs.numbering.layer_of.Statement.{statement}
 use Rattle.handed.proofs.numbering.layer_of.Tie as tie
 use borrow.Author.Needs.{needs}

@@ -1,4 +1,4 @@
--- `reasoning::numbering::number_of` meets its contract: what stands before it on its path.
+-- `handed::numbering::number_of` meets its contract: what stands before it on its path.
 use borrow.Author.Needs.{needs}
 use Rattle.handed.proofs.numbering.number_of.Statement.{statement}
 use Rattle.handed.proofs.numbering.number_of.Tie as tie

@@ -1,4 +1,4 @@
--- `reasoning::numbering::parts_on` meets its contract: the part with all goals and the one-goal parts.
+-- `handed::numbering::parts_on` meets its contract: the part with all goals and the one-goal parts.
 use borrow.Author.Needs.{needs}
 use Rattle.handed.proofs.numbering.parts_on.Statement.{statement}
 use Rattle.handed.proofs.numbering.parts_on.Tie as tie

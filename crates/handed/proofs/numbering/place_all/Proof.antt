@@ -1,4 +1,4 @@
--- `reasoning::numbering::place_all` meets its contract: layer by layer, what remains is the whole.
+-- `handed::numbering::place_all` meets its contract: layer by layer, what remains is the whole.
 use Rattle.handed.proofs.numbering.place_all.Statement.{statement}
 use Rattle.handed.proofs.numbering.place_all.Tie as tie
 use borrow.Author.Needs.{needs}

@@ -1,4 +1,4 @@
--- `reasoning::numbering::place_layer` meets its contract: what is stored and what remains is the whole.
+-- `handed::numbering::place_layer` meets its contract: what is stored and what remains is the whole.
 use Rattle.handed.proofs.numbering.place_layer.Statement.{statement}
 use Rattle.handed.proofs.numbering.place_layer.Tie as tie
 use borrow.Author.Needs.{needs}

@@ -1,4 +1,4 @@
--- `reasoning::numbering::with_if` meets its contract: with the path or as it was.
+-- `handed::numbering::with_if` meets its contract: with the path or as it was.
 use borrow.Author.Needs.{needs}
 use Rattle.handed.proofs.numbering.with_if.Statement.{statement}
 use Rattle.handed.proofs.numbering.with_if.Tie as tie

@@ -1,7 +1,6 @@
+-- `listing::lay::digits_of` meets its contract.
 use Rattle.listing.proofs.lay.digits_of.Statement.{statement}
 use Rattle.listing.proofs.lay.digits_of.Tie as tie
-use Rattle.listing.proofs.lay.digits_of.Reads as reads
-use Rattle.listing.proofs.lay.digits_of.Lts as lts
 use borrow.Author.Needs.{needs}
 use Rattle.listing.proofs.Digits.{DigitsSoFar, digits-laws}
 

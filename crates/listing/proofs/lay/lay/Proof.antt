@@ -1,10 +1,6 @@
+-- `listing::lay::lay` meets its contract.
 use Rattle.listing.proofs.lay.lay.Statement.{statement}
 use Rattle.listing.proofs.lay.lay.Tie as tie
-use Rattle.listing.proofs.lay.lay.Reads as reads
-use Rattle.listing.proofs.lay.lay.Lts as lts
-use Rattle.files.proofs.number.read_number.Reads as read-number-reads
-use Rattle.listing.proofs.lay.place_after.Reads as place-after-reads
-use Rattle.listing.proofs.lay.put_piece.Reads as put-piece-reads
 use borrow.Author.Needs.{needs}
 use Prim.Native.Nat.{_-_}
 use lib.ListN

@@ -1,12 +1,8 @@
+-- `listing::lay::lay_refusal` meets its contract.
 use borrow.Author.Needs.{needs}
 use native.Mathlib.Omega.{arith}
 use Rattle.listing.proofs.lay.lay_refusal.Statement.{statement}
 use Rattle.listing.proofs.lay.lay_refusal.Tie as tie
-use Rattle.listing.proofs.lay.lay_refusal.Reads as reads
-use Rattle.listing.proofs.lay.lay_refusal.Lts as lts
-use Rattle.listing.proofs.lay.put.Reads as put-reads
-use Rattle.listing.proofs.lay.put_last.Reads as put-last-reads
-use Rattle.listing.proofs.lay.put_spaced.Reads as put-spaced-reads
 use Rattle.listing.proofs.Laying.{refusal-laws}
 use Rattle.listing.proofs.Pieces.{spaced-few}
 

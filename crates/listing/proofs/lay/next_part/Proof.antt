@@ -1,8 +1,7 @@
+-- `listing::lay::next_part` meets its contract.
 use borrow.Author.Needs.{needs}
 use Rattle.listing.proofs.lay.next_part.Statement.{statement}
 use Rattle.listing.proofs.lay.next_part.Tie as tie
-use Rattle.listing.proofs.lay.next_part.Reads as reads
-use Rattle.listing.proofs.lay.next_part.Lts as lts
 use Rattle.listing.proofs.Laying.{next-part-is}
 
 add-t5 : tie.Need-add-t5

@@ -1,7 +1,6 @@
+-- `listing::lay::put` meets its contract.
 use Rattle.listing.proofs.lay.put.Statement.{statement}
 use Rattle.listing.proofs.lay.put.Tie as tie
-use Rattle.listing.proofs.lay.put.Reads as reads
-use Rattle.listing.proofs.lay.put.Lts as lts
 use borrow.Author.Needs.{needs}
 use Prim.Native.Nat.{_-_}
 use lib.ListN.{length}

@@ -1,10 +1,7 @@
+-- `listing::lay::put_count` meets its contract.
 use borrow.Author.Needs.{needs}
 use Rattle.listing.proofs.lay.put_count.Statement.{statement}
 use Rattle.listing.proofs.lay.put_count.Tie as tie
-use Rattle.listing.proofs.lay.put_count.Reads as reads
-use Rattle.listing.proofs.lay.put_count.Lts as lts
-use Rattle.listing.proofs.lay.put.Reads as put-reads
-use Rattle.listing.proofs.lay.put_last.Reads as put-last-reads
 use Rattle.listing.proofs.Pieces.{piece-laws}
 
 slice-aggregate-put : tie.Need-slice-aggregate-put

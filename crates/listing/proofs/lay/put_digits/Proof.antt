@@ -1,10 +1,7 @@
+-- `listing::lay::put_digits` meets its contract.
 use borrow.Author.Needs.{needs}
 use Rattle.listing.proofs.lay.put_digits.Statement.{statement}
 use Rattle.listing.proofs.lay.put_digits.Tie as tie
-use Rattle.listing.proofs.lay.put_digits.Reads as reads
-use Rattle.listing.proofs.lay.put_digits.Lts as lts
-use Rattle.listing.proofs.lay.digits_of.Reads as digits-of-reads
-use Rattle.listing.proofs.lay.put.Reads as put-reads
 use Rattle.listing.proofs.Puts.{lent-laws}
 
 digits-of-requires : tie.Need-digits-of-requires

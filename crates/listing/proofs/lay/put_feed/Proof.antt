@@ -1,8 +1,7 @@
+-- `listing::lay::put_feed` meets its contract.
 use borrow.Author.Needs.{needs}
 use Rattle.listing.proofs.lay.put_feed.Statement.{statement}
 use Rattle.listing.proofs.lay.put_feed.Tie as tie
-use Rattle.listing.proofs.lay.put_feed.Reads as reads
-use Rattle.listing.proofs.lay.put_feed.Lts as lts
 use Rattle.listing.proofs.Puts.{feed-laws}
 
 slice-write-out : tie.Need-slice-write-out

@@ -1,10 +1,7 @@
+-- `listing::lay::put_first` meets its contract.
 use borrow.Author.Needs.{needs}
 use Rattle.listing.proofs.lay.put_first.Statement.{statement}
 use Rattle.listing.proofs.lay.put_first.Tie as tie
-use Rattle.listing.proofs.lay.put_first.Reads as reads
-use Rattle.listing.proofs.lay.put_first.Lts as lts
-use Rattle.listing.proofs.lay.put.Reads as put-reads
-use Rattle.listing.proofs.lay.put_last.Reads as put-last-reads
 use Rattle.listing.proofs.Pieces.{piece-laws}
 
 slice-aggregate-put : tie.Need-slice-aggregate-put

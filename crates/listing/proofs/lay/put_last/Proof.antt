@@ -1,10 +1,7 @@
+-- `listing::lay::put_last` meets its contract.
 use borrow.Author.Needs.{needs}
 use Rattle.listing.proofs.lay.put_last.Statement.{statement}
 use Rattle.listing.proofs.lay.put_last.Tie as tie
-use Rattle.listing.proofs.lay.put_last.Reads as reads
-use Rattle.listing.proofs.lay.put_last.Lts as lts
-use Rattle.listing.proofs.lay.put_feed.Reads as put-feed-reads
-use Rattle.listing.proofs.lay.put_spaced.Reads as put-spaced-reads
 use Rattle.listing.proofs.Pieces.{piece-laws}
 
 put-spaced-requires : tie.Need-put-spaced-requires

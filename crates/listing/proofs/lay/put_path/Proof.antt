@@ -1,10 +1,7 @@
+-- `listing::lay::put_path` meets its contract.
 use borrow.Author.Needs.{needs}
 use Rattle.listing.proofs.lay.put_path.Statement.{statement}
 use Rattle.listing.proofs.lay.put_path.Tie as tie
-use Rattle.listing.proofs.lay.put_path.Reads as reads
-use Rattle.listing.proofs.lay.put_path.Lts as lts
-use Rattle.listing.proofs.lay.put_digits.Reads as put-digits-reads
-use Rattle.listing.proofs.lay.put_spaced.Reads as put-spaced-reads
 use Rattle.listing.proofs.Pieces.{piece-laws}
 
 put-digits-requires : tie.Need-put-digits-requires

@@ -1,13 +1,7 @@
+-- `listing::lay::put_piece` meets its contract.
 use borrow.Author.Needs.{needs}
 use Rattle.listing.proofs.lay.put_piece.Statement.{statement}
 use Rattle.listing.proofs.lay.put_piece.Tie as tie
-use Rattle.listing.proofs.lay.put_piece.Reads as reads
-use Rattle.listing.proofs.lay.put_piece.Lts as lts
-use Rattle.listing.proofs.lay.put_count.Reads as put-count-reads
-use Rattle.listing.proofs.lay.put_feed.Reads as put-feed-reads
-use Rattle.listing.proofs.lay.put_first.Reads as put-first-reads
-use Rattle.listing.proofs.lay.put_last.Reads as put-last-reads
-use Rattle.listing.proofs.lay.put_path.Reads as put-path-reads
 use Rattle.listing.proofs.Pieces.{stage-laws}
 
 enum-told : tie.Need-enum-told

@@ -1,9 +1,7 @@
+-- `listing::lay::put_spaced` meets its contract.
 use borrow.Author.Needs.{needs}
 use Rattle.listing.proofs.lay.put_spaced.Statement.{statement}
 use Rattle.listing.proofs.lay.put_spaced.Tie as tie
-use Rattle.listing.proofs.lay.put_spaced.Reads as reads
-use Rattle.listing.proofs.lay.put_spaced.Lts as lts
-use Rattle.listing.proofs.lay.put_digits.Reads as put-digits-reads
 use Rattle.listing.proofs.Puts.{spaced-laws}
 
 slice-write-out : tie.Need-slice-write-out

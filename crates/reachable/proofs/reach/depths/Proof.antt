@@ -1,8 +1,6 @@
+-- `reachable::reach::depths` meets its contract.
 use Rattle.reachable.proofs.reach.depths.Statement.{statement}
 use Rattle.reachable.proofs.reach.depths.Tie as tie
-use Rattle.reachable.proofs.reach.depths.Reads as reads
-use Rattle.reachable.proofs.reach.depths.Lts as lts
-use Rattle.reachable.proofs.steps.parent_of.Reads as parent-of-reads
 use borrow.Author.Needs.{needs}
 use Prim.Native.Nat.{_-_, _≤_}
 use Rattle.reachable.specs.Known.{DepthsIn}

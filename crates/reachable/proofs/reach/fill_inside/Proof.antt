@@ -1,9 +1,6 @@
+-- `reachable::reach::fill_inside` meets its contract.
 use Rattle.reachable.proofs.reach.fill_inside.Statement.{statement}
 use Rattle.reachable.proofs.reach.fill_inside.Tie as tie
-use Rattle.reachable.proofs.reach.fill_inside.Reads as reads
-use Rattle.reachable.proofs.reach.fill_inside.Lts as lts
-use Rattle.reachable.proofs.reach.fill_word.Reads as fill-word-reads
-use Rattle.reachable.proofs.steps.subtree.Reads as subtree-reads
 use borrow.Author.Needs.{needs}
 use Prim.Native.Nat.{_-_}
 use mathlib.Core.Path.{_≡_}

@@ -1,12 +1,7 @@
+-- `reachable::reach::fill_word` meets its contract.
 use borrow.Author.Needs.{needs}
 use Rattle.reachable.proofs.reach.fill_word.Statement.{statement}
 use Rattle.reachable.proofs.reach.fill_word.Tie as tie
-use Rattle.reachable.proofs.reach.fill_word.Reads as reads
-use Rattle.reachable.proofs.reach.fill_word.Lts as lts
-use Rattle.files.proofs.sets.has.Reads as has-reads
-use Rattle.reachable.proofs.reach.place.Reads as place-reads
-use Rattle.reachable.proofs.steps.alone.Reads as alone-reads
-use Rattle.reachable.proofs.steps.settle.Reads as settle-reads
 use Rattle.reachable.proofs.Filling.{fill-laws}
 
 has-requires : tie.Need-has-requires

@@ -1,10 +1,7 @@
+-- `reachable::reach::reach` meets its contract.
 use borrow.Author.Needs.{needs}
 use Rattle.reachable.proofs.reach.reach.Statement.{statement}
 use Rattle.reachable.proofs.reach.reach.Tie as tie
-use Rattle.reachable.proofs.reach.reach.Reads as reads
-use Rattle.reachable.proofs.reach.reach.Lts as lts
-use Rattle.files.proofs.sets.has.Reads as has-reads
-use Rattle.reachable.proofs.reach.place.Reads as place-reads
 use Rattle.reachable.proofs.Filling.{lookup-laws}
 
 element-copy-out-place : tie.Need-element-copy-out-place

@@ -1,8 +1,6 @@
+-- `reachable::reach::reach_table` meets its contract.
 use Rattle.reachable.proofs.reach.reach_table.Statement.{statement}
 use Rattle.reachable.proofs.reach.reach_table.Tie as tie
-use Rattle.reachable.proofs.reach.reach_table.Reads as reads
-use Rattle.reachable.proofs.reach.reach_table.Lts as lts
-use Rattle.reachable.proofs.reach.fill_inside.Reads as fill-inside-reads
 use borrow.Author.Needs.{needs}
 use Prim.Native.Nat.{_-_}
 use Rattle.reachable.specs.Known.{Filled}

@@ -1,10 +1,7 @@
+-- `reachable::steps::alone` meets its contract.
 use borrow.Author.Needs.{needs}
 use Rattle.reachable.proofs.steps.alone.Statement.{statement}
 use Rattle.reachable.proofs.steps.alone.Tie as tie
-use Rattle.reachable.proofs.steps.alone.Reads as reads
-use Rattle.reachable.proofs.steps.alone.Lts as lts
-use Rattle.files.proofs.sets.has.Reads as has-reads
-use Rattle.files.proofs.sets.with.Reads as with-reads
 use Rattle.reachable.proofs.Stepping.{alone-laws}
 
 has-requires : tie.Need-has-requires

@@ -1,9 +1,7 @@
+-- `reachable::steps::by_climb` meets its contract.
 use borrow.Author.Needs.{needs}
 use Rattle.reachable.proofs.steps.by_climb.Statement.{statement}
 use Rattle.reachable.proofs.steps.by_climb.Tie as tie
-use Rattle.reachable.proofs.steps.by_climb.Reads as reads
-use Rattle.reachable.proofs.steps.by_climb.Lts as lts
-use Rattle.reachable.proofs.steps.carry.Reads as carry-reads
 use Rattle.reachable.proofs.Stepping.{climb-laws}
 
 carry-requires : tie.Need-carry-requires

@@ -1,9 +1,6 @@
+-- `reachable::steps::by_climbs` meets its contract.
 use Rattle.reachable.proofs.steps.by_climbs.Statement.{statement}
 use Rattle.reachable.proofs.steps.by_climbs.Tie as tie
-use Rattle.reachable.proofs.steps.by_climbs.Reads as reads
-use Rattle.reachable.proofs.steps.by_climbs.Lts as lts
-use Rattle.reachable.proofs.steps.by_climb.Reads as by-climb-reads
-use Rattle.reachable.proofs.steps.parent_of.Reads as parent-of-reads
 use borrow.Author.Needs.{needs}
 use Prim.Native.Nat.{_≤_}
 use mathlib.Core.Path.{_≡_}

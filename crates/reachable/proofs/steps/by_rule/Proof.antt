@@ -1,9 +1,7 @@
+-- `reachable::steps::by_rule` meets its contract.
 use borrow.Author.Needs.{needs}
 use Rattle.reachable.proofs.steps.by_rule.Statement.{statement}
 use Rattle.reachable.proofs.steps.by_rule.Tie as tie
-use Rattle.reachable.proofs.steps.by_rule.Reads as reads
-use Rattle.reachable.proofs.steps.by_rule.Lts as lts
-use Rattle.reachable.proofs.steps.carry.Reads as carry-reads
 use Rattle.reachable.proofs.Stepping.{rule-laws}
 
 carry-requires : tie.Need-carry-requires

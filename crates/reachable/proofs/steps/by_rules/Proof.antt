@@ -1,9 +1,6 @@
+-- `reachable::steps::by_rules` meets its contract.
 use Rattle.reachable.proofs.steps.by_rules.Statement.{statement}
 use Rattle.reachable.proofs.steps.by_rules.Tie as tie
-use Rattle.reachable.proofs.steps.by_rules.Reads as reads
-use Rattle.reachable.proofs.steps.by_rules.Lts as lts
-use Rattle.reachable.proofs.steps.by_rule.Reads as by-rule-reads
-use Rattle.reachable.proofs.steps.wide.Reads as wide-reads
 use borrow.Author.Needs.{needs}
 use Prim.Native.Nat.{_-_, _≤_}
 use mathlib.Core.Path.{_≡_}

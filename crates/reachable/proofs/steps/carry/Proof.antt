@@ -1,10 +1,7 @@
+-- `reachable::steps::carry` meets its contract.
 use borrow.Author.Needs.{needs}
 use Rattle.reachable.proofs.steps.carry.Statement.{statement}
 use Rattle.reachable.proofs.steps.carry.Tie as tie
-use Rattle.reachable.proofs.steps.carry.Reads as reads
-use Rattle.reachable.proofs.steps.carry.Lts as lts
-use Rattle.files.proofs.sets.has.Reads as has-reads
-use Rattle.files.proofs.sets.with.Reads as with-reads
 use Rattle.reachable.proofs.Stepping.{carry-laws}
 
 has-requires : tie.Need-has-requires

@@ -1,10 +1,7 @@
+-- `reachable::steps::join_child` meets its contract.
 use borrow.Author.Needs.{needs}
 use Rattle.reachable.proofs.steps.join_child.Statement.{statement}
 use Rattle.reachable.proofs.steps.join_child.Tie as tie
-use Rattle.reachable.proofs.steps.join_child.Reads as reads
-use Rattle.reachable.proofs.steps.join_child.Lts as lts
-use Rattle.files.proofs.sets.has.Reads as has-reads
-use Rattle.files.proofs.sets.with.Reads as with-reads
 use Rattle.reachable.proofs.Stepping.{child-laws}
 
 has-requires : tie.Need-has-requires

@@ -1,10 +1,7 @@
+-- `reachable::steps::one_step` meets its contract.
 use borrow.Author.Needs.{needs}
 use Rattle.reachable.proofs.steps.one_step.Statement.{statement}
 use Rattle.reachable.proofs.steps.one_step.Tie as tie
-use Rattle.reachable.proofs.steps.one_step.Reads as reads
-use Rattle.reachable.proofs.steps.one_step.Lts as lts
-use Rattle.reachable.proofs.steps.by_climbs.Reads as by-climbs-reads
-use Rattle.reachable.proofs.steps.by_rules.Reads as by-rules-reads
 use Rattle.reachable.proofs.Stepping.{step-laws}
 
 by-climbs-requires : tie.Need-by-climbs-requires

@@ -1,9 +1,7 @@
+-- `reachable::steps::parent_of` meets its contract.
 use borrow.Author.Needs.{needs}
 use Rattle.reachable.proofs.steps.parent_of.Statement.{statement}
 use Rattle.reachable.proofs.steps.parent_of.Tie as tie
-use Rattle.reachable.proofs.steps.parent_of.Reads as reads
-use Rattle.reachable.proofs.steps.parent_of.Lts as lts
-use Rattle.reachable.proofs.steps.wide.Reads as wide-reads
 use Rattle.reachable.proofs.Stepping.{parent-laws}
 
 element-copy-out-wide : tie.Need-element-copy-out-wide

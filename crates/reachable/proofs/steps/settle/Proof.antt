@@ -1,8 +1,6 @@
+-- `reachable::steps::settle` meets its contract.
 use Rattle.reachable.proofs.steps.settle.Statement.{statement}
 use Rattle.reachable.proofs.steps.settle.Tie as tie
-use Rattle.reachable.proofs.steps.settle.Reads as reads
-use Rattle.reachable.proofs.steps.settle.Lts as lts
-use Rattle.reachable.proofs.steps.one_step.Reads as one-step-reads
 use borrow.Author.Needs.{needs}
 use Prim.Native.Nat.{_-_, _^_, _<_}
 use mathlib.Core.Path.{_≡_}

@@ -1,10 +1,6 @@
+-- `reachable::steps::subtree` meets its contract.
 use Rattle.reachable.proofs.steps.subtree.Statement.{statement}
 use Rattle.reachable.proofs.steps.subtree.Tie as tie
-use Rattle.reachable.proofs.steps.subtree.Reads as reads
-use Rattle.reachable.proofs.steps.subtree.Lts as lts
-use Rattle.files.proofs.sets.with.Reads as with-reads
-use Rattle.reachable.proofs.steps.join_child.Reads as join-child-reads
-use Rattle.reachable.proofs.steps.parent_of.Reads as parent-of-reads
 use borrow.Author.Needs.{needs}
 use Prim.Native.Nat.{_-_, _≤_}
 use mathlib.Core.Path.{_≡_}

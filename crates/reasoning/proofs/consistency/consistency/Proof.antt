@@ -1,11 +1,7 @@
+-- `reasoning::consistency::consistency` meets its contract.
 use borrow.Author.Needs.{needs}
 use Rattle.reasoning.proofs.consistency.consistency.Statement.{statement}
 use Rattle.reasoning.proofs.consistency.consistency.Tie as tie
-use Rattle.reasoning.proofs.consistency.consistency.Reads as reads
-use Rattle.reasoning.proofs.consistency.consistency.Lts as lts
-use Rattle.files.proofs.rules.parents.Reads as parents-reads
-use Rattle.files.proofs.valid.valid_table.Reads as valid-table-reads
-use Rattle.reasoning.proofs.consistency.decide.Reads as decide-reads
 use native.Mathlib.Omega.{arith}
 use Rattle.reasoning.proofs.Calling.{invalid-refused, valid-passed}
 

@@ -1,15 +1,7 @@
+-- `reasoning::consistency::decide` meets its contract.
 use borrow.Author.Needs.{needs}
 use Rattle.reasoning.proofs.consistency.decide.Statement.{statement}
 use Rattle.reasoning.proofs.consistency.decide.Tie as tie
-use Rattle.reasoning.proofs.consistency.decide.Reads as reads
-use Rattle.reasoning.proofs.consistency.decide.Lts as lts
-use Rattle.files.proofs.sets.with.Reads as with-reads
-use Rattle.evidence.proofs.choose.clashing.Reads as clashing-reads
-use Rattle.evidence.proofs.collect.consistent.Reads as consistent-reads
-use Rattle.reasoning.proofs.consistency.put_conflict.Reads as put-conflict-reads
-use Rattle.reasoning.proofs.consistency.put_witness.Reads as put-witness-reads
-use Rattle.reachable.proofs.reach.depths.Reads as depths-reads
-use Rattle.reachable.proofs.reach.reach_table.Reads as reach-table-reads
 use native.Mathlib.Omega.{arith}
 use Rattle.reasoning.proofs.Calling.{passed-sound, passed-parents, passed-known, passed-decided, passed-witnessed, passed-conflicting}
 

@@ -1,11 +1,7 @@
+-- `reasoning::consistency::put_conflict` meets its contract.
 use borrow.Author.Needs.{needs}
 use Rattle.reasoning.proofs.consistency.put_conflict.Statement.{statement}
 use Rattle.reasoning.proofs.consistency.put_conflict.Tie as tie
-use Rattle.reasoning.proofs.consistency.put_conflict.Reads as reads
-use Rattle.reasoning.proofs.consistency.put_conflict.Lts as lts
-use Rattle.files.proofs.write.put_numbers.Reads as put-numbers-reads
-use Rattle.evidence.proofs.collect.put_inconsistent.Reads as put-inconsistent-reads
-use Rattle.reasoning.proofs.consistency.shown.Reads as shown-reads
 use native.Mathlib.Omega.{arith}
 use Rattle.reasoning.proofs.Calling.{conflict-put, lent-some, lent-within}
 

@@ -1,10 +1,7 @@
+-- `reasoning::consistency::put_witness` meets its contract.
 use borrow.Author.Needs.{needs}
 use Rattle.reasoning.proofs.consistency.put_witness.Statement.{statement}
 use Rattle.reasoning.proofs.consistency.put_witness.Tie as tie
-use Rattle.reasoning.proofs.consistency.put_witness.Reads as reads
-use Rattle.reasoning.proofs.consistency.put_witness.Lts as lts
-use Rattle.reasoning.proofs.consistency.witnessed.Reads as witnessed-reads
-use Rattle.handed.proofs.document.write_document.Reads as write-document-reads
 use native.Mathlib.Omega.{arith}
 use Rattle.reasoning.proofs.Calling.{witness-writable, witness-put}
 

@@ -1,14 +1,7 @@
+-- `reasoning::question::answer` meets its contract.
 use borrow.Author.Needs.{needs}
 use Rattle.reasoning.proofs.question.answer.Statement.{statement}
 use Rattle.reasoning.proofs.question.answer.Tie as tie
-use Rattle.reasoning.proofs.question.answer.Reads as reads
-use Rattle.reasoning.proofs.question.answer.Lts as lts
-use Rattle.evidence.proofs.choose.clashing.Reads as clashing-reads
-use Rattle.evidence.proofs.collect.yes.Reads as yes-reads
-use Rattle.reasoning.proofs.question.put_no.Reads as put-no-reads
-use Rattle.reasoning.proofs.question.put_yes.Reads as put-yes-reads
-use Rattle.reachable.proofs.reach.depths.Reads as depths-reads
-use Rattle.reachable.proofs.reach.reach_table.Reads as reach-table-reads
 use native.Mathlib.Omega.{arith}
 use Rattle.reasoning.proofs.Calling.{passed-sound, passed-parents, passed-known}
 use Rattle.reasoning.proofs.Asking.{asked-requires, asked-affirmed, asked-denied}

@@ -1,12 +1,7 @@
+-- `reasoning::question::ask` meets its contract.
 use borrow.Author.Needs.{needs}
 use Rattle.reasoning.proofs.question.ask.Statement.{statement}
 use Rattle.reasoning.proofs.question.ask.Tie as tie
-use Rattle.reasoning.proofs.question.ask.Reads as reads
-use Rattle.reasoning.proofs.question.ask.Lts as lts
-use Rattle.files.proofs.rules.parents.Reads as parents-reads
-use Rattle.files.proofs.valid.valid_table.Reads as valid-table-reads
-use Rattle.reasoning.proofs.question.answer.Reads as answer-reads
-use Rattle.reasoning.proofs.question.can_ask.Reads as can-ask-reads
 use native.Mathlib.Omega.{arith}
 use Rattle.reasoning.proofs.Asking.{invalid-barred, unasked-barred, question-passed, answers-byte}
 use borrow.Author.Tests.{not-false}

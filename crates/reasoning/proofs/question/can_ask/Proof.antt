@@ -1,7 +1,6 @@
+-- `reasoning::question::can_ask` meets its contract.
 use Rattle.reasoning.proofs.question.can_ask.Statement.{statement}
 use Rattle.reasoning.proofs.question.can_ask.Tie as tie
-use Rattle.reasoning.proofs.question.can_ask.Reads as reads
-use Rattle.reasoning.proofs.question.can_ask.Lts as lts
 use borrow.Author.Needs.{needs}
 use Rattle.reasoning.proofs.Asking.{askable-laws}
 

@@ -1,11 +1,7 @@
+-- `reasoning::question::put_yes` meets its contract.
 use borrow.Author.Needs.{needs}
 use Rattle.reasoning.proofs.question.put_yes.Statement.{statement}
 use Rattle.reasoning.proofs.question.put_yes.Tie as tie
-use Rattle.reasoning.proofs.question.put_yes.Reads as reads
-use Rattle.reasoning.proofs.question.put_yes.Lts as lts
-use Rattle.files.proofs.write.put_numbers.Reads as put-numbers-reads
-use Rattle.evidence.proofs.collect.put_evidence.Reads as put-evidence-reads
-use Rattle.reasoning.proofs.question.affirmed.Reads as affirmed-reads
 use native.Mathlib.Omega.{arith}
 use Rattle.reasoning.proofs.Calling.{lent-some, lent-within}
 use Rattle.reasoning.proofs.Asking.{yes-requires, yes-put}

@@ -1,11 +1,7 @@
+-- `evidence::decide::excludes` meets its contract.
 use borrow.Author.Needs.{needs}
-use Rattle.evidence.proofs.collect.excludes.Statement.{statement}
-use Rattle.evidence.proofs.collect.excludes.Tie as tie
-use Rattle.evidence.proofs.collect.excludes.Reads as reads
-use Rattle.evidence.proofs.collect.excludes.Lts as lts
-use Rattle.evidence.proofs.choose.is_dead.Reads as is-dead-reads
-use Rattle.evidence.proofs.choose.pair_rule.Reads as pair-rule-reads
-use Rattle.reachable.proofs.steps.context.Reads as context-reads
+use Rattle.evidence.proofs.decide.excludes.Statement.{statement}
+use Rattle.evidence.proofs.decide.excludes.Tie as tie
 use Rattle.evidence.proofs.Choosing.{placed-laws}
 use Rattle.evidence.proofs.Collecting.{absence-laws}
 

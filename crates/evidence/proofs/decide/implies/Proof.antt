@@ -1,10 +1,7 @@
+-- `evidence::decide::implies` meets its contract.
 use borrow.Author.Needs.{needs}
-use Rattle.evidence.proofs.collect.implies.Statement.{statement}
-use Rattle.evidence.proofs.collect.implies.Tie as tie
-use Rattle.evidence.proofs.collect.implies.Reads as reads
-use Rattle.evidence.proofs.collect.implies.Lts as lts
-use Rattle.evidence.proofs.choose.is_dead.Reads as is-dead-reads
-use Rattle.evidence.proofs.collect.is_direct.Reads as is-direct-reads
+use Rattle.evidence.proofs.decide.implies.Statement.{statement}
+use Rattle.evidence.proofs.decide.implies.Tie as tie
 use Rattle.evidence.proofs.Choosing.{placed-laws}
 use Rattle.evidence.proofs.Collecting.{implication-laws}
 

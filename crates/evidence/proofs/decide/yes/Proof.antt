@@ -1,10 +1,7 @@
+-- `evidence::decide::yes` meets its contract.
 use borrow.Author.Needs.{needs}
-use Rattle.evidence.proofs.collect.yes.Statement.{statement}
-use Rattle.evidence.proofs.collect.yes.Tie as tie
-use Rattle.evidence.proofs.collect.yes.Reads as reads
-use Rattle.evidence.proofs.collect.yes.Lts as lts
-use Rattle.evidence.proofs.collect.excludes.Reads as excludes-reads
-use Rattle.evidence.proofs.collect.implies.Reads as implies-reads
+use Rattle.evidence.proofs.decide.yes.Statement.{statement}
+use Rattle.evidence.proofs.decide.yes.Tie as tie
 use Rattle.evidence.proofs.Answering.{yes-laws}
 
 implies-requires : tie.Need-implies-requires

@@ -1,11 +1,7 @@
+-- `evidence::decide::is_direct` meets its contract.
 use borrow.Author.Needs.{needs}
-use Rattle.evidence.proofs.collect.is_direct.Statement.{statement}
-use Rattle.evidence.proofs.collect.is_direct.Tie as tie
-use Rattle.evidence.proofs.collect.is_direct.Reads as reads
-use Rattle.evidence.proofs.collect.is_direct.Lts as lts
-use Rattle.files.proofs.sets.has.Reads as has-reads
-use Rattle.reachable.proofs.reach.reach.Reads as reach-reads
-use Rattle.reachable.proofs.steps.context.Reads as context-reads
+use Rattle.evidence.proofs.decide.is_direct.Statement.{statement}
+use Rattle.evidence.proofs.decide.is_direct.Tie as tie
 use Rattle.evidence.proofs.Choosing.{placed-laws}
 use Rattle.evidence.proofs.Collecting.{implication-laws}
 

@@ -1,10 +1,7 @@
+-- `evidence::decide::dead_asked` meets its contract.
 use borrow.Author.Needs.{needs}
-use Rattle.evidence.proofs.collect.dead_asked.Statement.{statement}
-use Rattle.evidence.proofs.collect.dead_asked.Tie as tie
-use Rattle.evidence.proofs.collect.dead_asked.Reads as reads
-use Rattle.evidence.proofs.collect.dead_asked.Lts as lts
-use Rattle.files.proofs.sets.common.Reads as common-reads
-use Rattle.evidence.proofs.choose.dead_paths.Reads as dead-paths-reads
+use Rattle.evidence.proofs.decide.dead_asked.Statement.{statement}
+use Rattle.evidence.proofs.decide.dead_asked.Tie as tie
 use Rattle.evidence.proofs.Answering.{dead-asked-is}
 
 dead-paths-requires : tie.Need-dead-paths-requires

@@ -1,11 +1,7 @@
+-- `evidence::conflict::put_root_pair` meets its contract.
 use borrow.Author.Needs.{needs}
-use Rattle.evidence.proofs.collect.put_root_pair.Statement.{statement}
-use Rattle.evidence.proofs.collect.put_root_pair.Tie as tie
-use Rattle.evidence.proofs.collect.put_root_pair.Reads as reads
-use Rattle.evidence.proofs.collect.put_root_pair.Lts as lts
-use Rattle.evidence.proofs.choose.reacher.Reads as reacher-reads
-use Rattle.evidence.proofs.collect.put_pair.Reads as put-pair-reads
-use Rattle.reachable.proofs.steps.wide.Reads as wide-reads
+use Rattle.evidence.proofs.conflict.put_root_pair.Statement.{statement}
+use Rattle.evidence.proofs.conflict.put_root_pair.Tie as tie
 use Rattle.evidence.proofs.Answering.{root-pair-laws}
 
 element-copy-out-wide : tie.Need-element-copy-out-wide

@@ -1,10 +1,7 @@
+-- `evidence::decide::consistent` meets its contract.
 use borrow.Author.Needs.{needs}
-use Rattle.evidence.proofs.collect.consistent.Statement.{statement}
-use Rattle.evidence.proofs.collect.consistent.Tie as tie
-use Rattle.evidence.proofs.collect.consistent.Reads as reads
-use Rattle.evidence.proofs.collect.consistent.Lts as lts
-use Rattle.evidence.proofs.choose.root_rule.Reads as root-rule-reads
-use Rattle.evidence.proofs.collect.dead_asked.Reads as dead-asked-reads
+use Rattle.evidence.proofs.decide.consistent.Statement.{statement}
+use Rattle.evidence.proofs.decide.consistent.Tie as tie
 use Rattle.evidence.proofs.Choosing.{placed-laws}
 use Rattle.evidence.proofs.Answering.{consistent-laws}
 

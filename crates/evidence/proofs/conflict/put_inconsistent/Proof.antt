@@ -1,13 +1,7 @@
+-- `evidence::conflict::put_inconsistent` meets its contract.
 use borrow.Author.Needs.{needs}
-use Rattle.evidence.proofs.collect.put_inconsistent.Statement.{statement}
-use Rattle.evidence.proofs.collect.put_inconsistent.Tie as tie
-use Rattle.evidence.proofs.collect.put_inconsistent.Reads as reads
-use Rattle.evidence.proofs.collect.put_inconsistent.Lts as lts
-use Rattle.files.proofs.sets.lowest.Reads as lowest-reads
-use Rattle.evidence.proofs.choose.root_rule.Reads as root-rule-reads
-use Rattle.evidence.proofs.collect.dead_asked.Reads as dead-asked-reads
-use Rattle.evidence.proofs.collect.put_dead.Reads as put-dead-reads
-use Rattle.evidence.proofs.collect.put_root_pair.Reads as put-root-pair-reads
+use Rattle.evidence.proofs.conflict.put_inconsistent.Statement.{statement}
+use Rattle.evidence.proofs.conflict.put_inconsistent.Tie as tie
 use Rattle.evidence.proofs.Choosing.{placed-laws}
 use Rattle.evidence.proofs.Answering.{inconsistent-laws}
 
