@@ -16,7 +16,7 @@ pub mod HandedDisjoint
 pub mod HandedDocuments
 pub mod HandedFill
 pub mod HandedKids
-pub mod HandedLoops
+pub mod HandedGather
 pub mod HandedNamed
 pub mod HandedOrder
 pub mod HandedParts
