@@ -13,8 +13,7 @@ use Rattle.files.proofs.Stores.{sets-append}
 use Rattle.files.proofs.SetBits.{has-under}
 use Rattle.files.proofs.SetLowest.{has-lowest, without-lowest-less}
 use Rattle.files.proofs.SetMembers.{members-take, members-of-zero}
-use Rattle.theory.specs.Reachable.{subtree}
-use Rattle.theory.specs.Handed.{eachOf, onlyIf, childPaths}
+use Rattle.theory.specs.Handed.{eachOf, onlyIf}
 use Rattle.handed.specs.Emit.{sizeOf, storing, Room, Emitted, numberIn, oneNumber, wholeNumber, kidsUnder, kidsIn}
 
 -- ---- what is emitted, and what remains
@@ -150,25 +149,18 @@ module _ (store : Bool) (f : ℕ → List ℕ) (left : ℕ) (out : List ℕ) (at
   pub each-end : left ≡ 0 → Emitted store all out₀ at₀ out at
   each-end e = left-end store (eachOf f (members left)) out at all out₀ at₀ inv (each-none f left e)
 
-module _ (left next count : ℕ) (some : left ≡ 0 → ⊥) where
+module _ (left next : ℕ) (some : left ≡ 0 → ⊥) where
   pub set-less : left < 2 ^ 64 → next ≡ withoutLowest left → next < left
   set-less fits e = omega (arith, without-lowest-less left (omega (arith, some)) fits)
 
   pub set-fits : left < 2 ^ 64 → next ≡ withoutLowest left → next < 2 ^ 64
   set-fits fits e = omega (arith, set-less fits e)
 
-  pub set-under : left < 2 ^ 64 → left < 2 ^ count → next ≡ withoutLowest left → next < 2 ^ count
-  set-under fits h e = omega (arith, set-less fits e)
-
-  pub set-inner : (x : ℕ) → left < 2 ^ 64 → left < 2 ^ count → x ≡ lowest left → x < count
-  set-inner x fits h e =
-      subst (λ (y : ℕ). y < count) (sym e) (has-under left count (lowest left) h (has-lowest left (omega (arith, some)) fits))
-
   pub set-low : (x : ℕ) → left < 2 ^ 64 → x ≡ lowest left → x < 64
   set-low x fits e =
       subst (λ (y : ℕ). y < 64) (sym e) (has-under left 64 (lowest left) fits (has-lowest left (omega (arith, some)) fits))
 
-pub ruleset set-laws = (set-less, set-fits, set-under, set-inner, set-low)
+pub ruleset set-laws = (set-less, set-fits, set-low)
 
 -- ---- the numbers of children
 
@@ -215,46 +207,46 @@ module _ (whole : ℕ) (places : List ℕ) (handed : Bool) (k : ℕ) where
 
 pub ruleset whole-number-laws = (whole-room, whole-in, whole-out, whole-not)
 
-module _ (parent : ℕ → ℕ) (count whole : ℕ) (rows places : List ℕ) (handed : Bool) (w k at : ℕ) where
-  under-split : (goals s : ℕ) → goals ≡ common w s → s ≡ subtree parent count k
-      → kidsUnder parent count whole rows places handed w k
+module _ (below : List ℕ) (whole : ℕ) (rows places : List ℕ) (handed : Bool) (w k at : ℕ) where
+  under-split : (goals s : ℕ) → goals ≡ common w s → s ≡ getD below k 0
+      → kidsUnder below whole rows places handed w k
       ≡ wholeNumber whole places handed k ++ eachOf (oneNumber whole rows places k) (members goals)
   unfolding kidsUnder
   under-split goals s e f = rw (e, f)
 
-  pub under-first : Room (kidsUnder parent count whole rows places handed w k) at → Room (wholeNumber whole places handed k) at
+  pub under-first : Room (kidsUnder below whole rows places handed w k) at → Room (wholeNumber whole places handed k) at
   under-first r =
-      room-first true (kidsUnder parent count whole rows places handed w k) (wholeNumber whole places handed k) _ at
-      (under-split (common w (subtree parent count k)) (subtree parent count k) refl refl) r
+      room-first true (kidsUnder below whole rows places handed w k) (wholeNumber whole places handed k) _ at
+      (under-split (common w (getD below k 0)) (getD below k 0) refl refl) r
 
-  module _ (store : Bool) (goals s : ℕ) (out one : List ℕ) (next : ℕ) (e : goals ≡ common w s) (f : s ≡ subtree parent count k)
+  module _ (store : Bool) (goals s : ℕ) (out one : List ℕ) (next : ℕ) (e : goals ≡ common w s) (f : s ≡ getD below k 0)
       (m : Emitted store (wholeNumber whole places handed k) out at one next) where
-    pub under-second : Room (kidsUnder parent count whole rows places handed w k) at
+    pub under-second : Room (kidsUnder below whole rows places handed w k) at
         → Room (eachOf (oneNumber whole rows places k) (members goals)) next
     under-second r =
-        room-second store (kidsUnder parent count whole rows places handed w k) (wholeNumber whole places handed k)
+        room-second store (kidsUnder below whole rows places handed w k) (wholeNumber whole places handed k)
         (eachOf (oneNumber whole rows places k) (members goals)) at (under-split goals s e f) out one next m r
 
     pub under-both : (two : List ℕ) (last : ℕ) → Emitted store (eachOf (oneNumber whole rows places k) (members goals)) one next two last
-        → Emitted store (kidsUnder parent count whole rows places handed w k) out at two last
+        → Emitted store (kidsUnder below whole rows places handed w k) out at two last
     under-both two last n =
-        emitted-both store (kidsUnder parent count whole rows places handed w k) (wholeNumber whole places handed k)
+        emitted-both store (kidsUnder below whole rows places handed w k) (wholeNumber whole places handed k)
         (eachOf (oneNumber whole rows places k) (members goals)) at (under-split goals s e f) out one next m two last n
 
 pub ruleset under-laws = (under-first, under-second, under-both)
 
-pub kids-start : (store : Bool) (parent : ℕ → ℕ) (count whole : ℕ) (rows places : List ℕ) (c : ℕ) (handed : Bool) (w left : ℕ) (out : List ℕ) (at : ℕ)
-    → left ≡ childPaths parent count c → Room (kidsIn parent count whole rows places c handed w) at
-    → Left store (eachOf (kidsUnder parent count whole rows places handed w) (members left)) out at
-    (kidsIn parent count whole rows places c handed w) out at
+pub kids-start : (store : Bool) (kids below : List ℕ) (whole : ℕ) (rows places : List ℕ) (c : ℕ) (handed : Bool) (w left : ℕ) (out : List ℕ) (at : ℕ)
+    → left ≡ getD kids c 0 → Room (kidsIn kids below whole rows places c handed w) at
+    → Left store (eachOf (kidsUnder below whole rows places handed w) (members left)) out at
+    (kidsIn kids below whole rows places c handed w) out at
 unfolding kidsIn
-kids-start store parent count whole rows places c handed w left out at e r =
-    rw e (left-start store (kidsIn parent count whole rows places c handed w) out at r)
+kids-start store kids below whole rows places c handed w left out at e r =
+    rw e (left-start store (kidsIn kids below whole rows places c handed w) out at r)
 
-pub kids-room : (store : Bool) (parent : ℕ → ℕ) (count whole : ℕ) (rows places : List ℕ) (handed : Bool) (w left : ℕ) (out : List ℕ) (at : ℕ)
-    (all out₀ : List ℕ) (at₀ x : ℕ) → Left store (eachOf (kidsUnder parent count whole rows places handed w) (members left)) out at all out₀ at₀
-    → (left ≡ 0 → ⊥) → left < 2 ^ 64 → x ≡ lowest left → Room (kidsUnder parent count whole rows places handed w x) at
-kids-room store parent count whole rows places handed w left out at all out₀ at₀ x inv some fits e =
-    each-room store (kidsUnder parent count whole rows places handed w) left out at all out₀ at₀ inv x some fits e
+pub kids-room : (store : Bool) (below : List ℕ) (whole : ℕ) (rows places : List ℕ) (handed : Bool) (w left : ℕ) (out : List ℕ) (at : ℕ)
+    (all out₀ : List ℕ) (at₀ x : ℕ) → Left store (eachOf (kidsUnder below whole rows places handed w) (members left)) out at all out₀ at₀
+    → (left ≡ 0 → ⊥) → left < 2 ^ 64 → x ≡ lowest left → Room (kidsUnder below whole rows places handed w x) at
+kids-room store below whole rows places handed w left out at all out₀ at₀ x inv some fits e =
+    each-room store (kidsUnder below whole rows places handed w) left out at all out₀ at₀ inv x some fits e
 
 pub ruleset kids-laws = (kids-start, kids-room, each-on, each-end, set-laws)

@@ -9,8 +9,7 @@ use lib.ListN.{length, getD, length-append}
 use Rattle.files.specs.Sets.{bit, hasb, common, lowest, withoutLowest, size, members}
 use Rattle.files.proofs.SetBits.{hasb-true, hasb-false}
 use Rattle.files.proofs.SetMembers.{size-le, size-members, size-without-lowest}
-use Rattle.theory.specs.Reachable.{subtree}
-use Rattle.theory.specs.Handed.{Start, eachOf, onlyIf, allKids, oneKids, layer, layersFrom, pathOrder, childPaths}
+use Rattle.theory.specs.Handed.{Start, eachOf, onlyIf, allKids, oneKids, layer, layersFrom, pathOrder}
 use Rattle.handed.specs.Writer.{startOf}
 use Rattle.handed.specs.Emit.{
   Room,
@@ -72,43 +71,43 @@ whole-same whole places true k =
     sym (whole-counted whole places true k (bit whole k) refl refl) ∙ whole-counted whole [] true k (bit whole k) refl refl
 whole-same whole places false k = sym (whole-none whole places false k refl) ∙ whole-none whole [] false k refl
 
-under-length : (parent : ℕ → ℕ) (count whole : ℕ) (rows places : List ℕ) (handed : Bool) (w k : ℕ)
-    → length (kidsUnder parent count whole rows places handed w k)
-    ≡ length (wholeNumber whole [] handed k) + size (common w (subtree parent count k))
+under-length : (below : List ℕ) (whole : ℕ) (rows places : List ℕ) (handed : Bool) (w k : ℕ)
+    → length (kidsUnder below whole rows places handed w k)
+    ≡ length (wholeNumber whole [] handed k) + size (common w (getD below k 0))
 unfolding kidsUnder
-under-length parent count whole rows places handed w k =
+under-length below whole rows places handed w k =
     omega (
       arith,
-      length-append (wholeNumber whole places handed k) (eachOf (oneNumber whole rows places k) (members (common w (subtree parent count k)))),
+      length-append (wholeNumber whole places handed k) (eachOf (oneNumber whole rows places k) (members (common w (getD below k 0)))),
       whole-same whole places handed k,
-      ones-length whole rows places k (members (common w (subtree parent count k))),
-      size-members (common w (subtree parent count k)),
+      ones-length whole rows places k (members (common w (getD below k 0))),
+      size-members (common w (getD below k 0)),
     )
 
-pub under-counted : (parent : ℕ → ℕ) (count whole : ℕ) (handed : Bool) (w k s goals n m : ℕ) → s ≡ subtree parent count k → goals ≡ common w s
-    → n ≡ length (wholeNumber whole [] handed k) → m ≡ size goals → n + m ≡ length (kidsUnder parent count whole [] [] handed w k)
-under-counted parent count whole handed w k s goals n m e f g h =
-    sym (under-length parent count whole [] [] handed w k ∙ rw (g, h, f, e))
+pub under-counted : (below : List ℕ) (whole : ℕ) (handed : Bool) (w k s goals n m : ℕ) → s ≡ getD below k 0 → goals ≡ common w s
+    → n ≡ length (wholeNumber whole [] handed k) → m ≡ size goals → n + m ≡ length (kidsUnder below whole [] [] handed w k)
+under-counted below whole handed w k s goals n m e f g h =
+    sym (under-length below whole [] [] handed w k ∙ rw (g, h, f, e))
 
 -- the children's numbers have no part in how many they are
-kids-same : (parent : ℕ → ℕ) (count whole : ℕ) (rows places : List ℕ) (handed : Bool) (w : ℕ) (l : List ℕ)
-    → length (eachOf (kidsUnder parent count whole rows places handed w) l) ≡ length (eachOf (kidsUnder parent count whole [] [] handed w) l)
+kids-same : (below : List ℕ) (whole : ℕ) (rows places : List ℕ) (handed : Bool) (w : ℕ) (l : List ℕ)
+    → length (eachOf (kidsUnder below whole rows places handed w) l) ≡ length (eachOf (kidsUnder below whole [] [] handed w) l)
 unfolding eachOf
-kids-same parent count whole rows places handed w [] = refl
-kids-same parent count whole rows places handed w (k ∷ l) =
+kids-same below whole rows places handed w [] = refl
+kids-same below whole rows places handed w (k ∷ l) =
     omega (
       arith,
-      length-append (kidsUnder parent count whole rows places handed w k) (eachOf (kidsUnder parent count whole rows places handed w) l),
-      length-append (kidsUnder parent count whole [] [] handed w k) (eachOf (kidsUnder parent count whole [] [] handed w) l),
-      under-length parent count whole rows places handed w k,
-      under-length parent count whole [] [] handed w k,
-      kids-same parent count whole rows places handed w l,
+      length-append (kidsUnder below whole rows places handed w k) (eachOf (kidsUnder below whole rows places handed w) l),
+      length-append (kidsUnder below whole [] [] handed w k) (eachOf (kidsUnder below whole [] [] handed w) l),
+      under-length below whole rows places handed w k,
+      under-length below whole [] [] handed w k,
+      kids-same below whole rows places handed w l,
     )
 
-pub kids-length : (parent : ℕ → ℕ) (count whole : ℕ) (rows places : List ℕ) (c : ℕ) (handed : Bool) (w : ℕ)
-    → length (kidsIn parent count whole rows places c handed w) ≡ length (kidsIn parent count whole [] [] c handed w)
+pub kids-length : (kids below : List ℕ) (whole : ℕ) (rows places : List ℕ) (c : ℕ) (handed : Bool) (w : ℕ)
+    → length (kidsIn kids below whole rows places c handed w) ≡ length (kidsIn kids below whole [] [] c handed w)
 unfolding kidsIn
-kids-length parent count whole rows places c handed w = kids-same parent count whole rows places handed w (members (childPaths parent count c))
+kids-length kids below whole rows places c handed w = kids-same below whole rows places handed w (members (getD kids c 0))
 
 module _ (f : ℕ → List ℕ) where
   pub many-start : (left : ℕ) → 0 + length (eachOf f (members left)) ≡ length (eachOf f (members left))
@@ -123,10 +122,10 @@ module _ (f : ℕ → List ℕ) where
     pub many-end : left ≡ 0 → many ≡ v
     many-end e = omega (arith, ap length (each-none f left e))
 
-pub many-kids-start : (parent : ℕ → ℕ) (count whole c : ℕ) (handed : Bool) (w left : ℕ) → left ≡ childPaths parent count c
-    → 0 + length (eachOf (kidsUnder parent count whole [] [] handed w) (members left)) ≡ length (kidsIn parent count whole [] [] c handed w)
+pub many-kids-start : (kids below : List ℕ) (whole c : ℕ) (handed : Bool) (w left : ℕ) → left ≡ getD kids c 0
+    → 0 + length (eachOf (kidsUnder below whole [] [] handed w) (members left)) ≡ length (kidsIn kids below whole [] [] c handed w)
 unfolding kidsIn
-many-kids-start parent count whole c handed w left e = rw e (many-start (kidsUnder parent count whole [] [] handed w) (childPaths parent count c))
+many-kids-start kids below whole c handed w left e = rw e (many-start (kidsUnder below whole [] [] handed w) (getD kids c 0))
 
 pub many-few : (left : ℕ) → 0 + 65 * size left ≤ 4160
 many-few left = omega (arith, size-le left)
@@ -143,120 +142,120 @@ pub ruleset many-laws = (many-kids-start, many-on, many-end, many-few, many-room
 
 -- ---- the numbers of a part
 
-module _ (parent : ℕ → ℕ) (count whole : ℕ) (rows places : List ℕ) (c : ℕ) (handed : Bool) (w at : ℕ) where
+module _ (kids below : List ℕ) (whole : ℕ) (rows places : List ℕ) (c : ℕ) (handed : Bool) (w at : ℕ) where
   rest : List ℕ
-  rest = length (kidsIn parent count whole rows places c handed w) ∷ kidsIn parent count whole rows places c handed w
+  rest = length (kidsIn kids below whole rows places c handed w) ∷ kidsIn kids below whole rows places c handed w
 
-  part-split : partIn parent count whole rows places c handed w ≡ (c ∷ []) ++ rest
+  part-split : partIn kids below whole rows places c handed w ≡ (c ∷ []) ++ rest
   unfolding partIn rest
   part-split = refl
 
-  pub part-path : Room (partIn parent count whole rows places c handed w) at → Room (c ∷ []) at
-  part-path r = room-first true (partIn parent count whole rows places c handed w) (c ∷ []) rest at part-split r
+  pub part-path : Room (partIn kids below whole rows places c handed w) at → Room (c ∷ []) at
+  part-path r = room-first true (partIn kids below whole rows places c handed w) (c ∷ []) rest at part-split r
 
-  module _ (store : Bool) (many : ℕ) (out one : List ℕ) (next : ℕ) (e : many ≡ length (kidsIn parent count whole [] [] c handed w))
+  module _ (store : Bool) (many : ℕ) (out one : List ℕ) (next : ℕ) (e : many ≡ length (kidsIn kids below whole [] [] c handed w))
       (m : Emitted store (c ∷ []) out at one next) where
-    rest-split : rest ≡ (many ∷ []) ++ kidsIn parent count whole rows places c handed w
+    rest-split : rest ≡ (many ∷ []) ++ kidsIn kids below whole rows places c handed w
     unfolding rest
-    rest-split = rw (e, ← kids-length parent count whole rows places c handed w)
+    rest-split = rw (e, ← kids-length kids below whole rows places c handed w)
 
-    pub part-many : Room (partIn parent count whole rows places c handed w) at → Room (many ∷ []) next
+    pub part-many : Room (partIn kids below whole rows places c handed w) at → Room (many ∷ []) next
     part-many r =
-        room-first true rest (many ∷ []) (kidsIn parent count whole rows places c handed w) next rest-split
-        (room-second store (partIn parent count whole rows places c handed w) (c ∷ []) rest at part-split out one next m r)
+        room-first true rest (many ∷ []) (kidsIn kids below whole rows places c handed w) next rest-split
+        (room-second store (partIn kids below whole rows places c handed w) (c ∷ []) rest at part-split out one next m r)
 
     module _ (two : List ℕ) (after : ℕ) (n : Emitted store (many ∷ []) one next two after) where
-      pub part-kids : Room (partIn parent count whole rows places c handed w) at → Room (kidsIn parent count whole rows places c handed w) after
+      pub part-kids : Room (partIn kids below whole rows places c handed w) at → Room (kidsIn kids below whole rows places c handed w) after
       part-kids r =
-          room-second store rest (many ∷ []) (kidsIn parent count whole rows places c handed w) next rest-split one two after n
-          (room-second store (partIn parent count whole rows places c handed w) (c ∷ []) rest at part-split out one next m r)
+          room-second store rest (many ∷ []) (kidsIn kids below whole rows places c handed w) next rest-split one two after n
+          (room-second store (partIn kids below whole rows places c handed w) (c ∷ []) rest at part-split out one next m r)
 
-      pub part-end : (three : List ℕ) (last : ℕ) → Emitted store (kidsIn parent count whole rows places c handed w) two after three last
-          → Emitted store (partIn parent count whole rows places c handed w) out at three last
+      pub part-end : (three : List ℕ) (last : ℕ) → Emitted store (kidsIn kids below whole rows places c handed w) two after three last
+          → Emitted store (partIn kids below whole rows places c handed w) out at three last
       part-end three last l =
-          emitted-both store (partIn parent count whole rows places c handed w) (c ∷ []) rest at part-split out one next m three last
-          (emitted-both store rest (many ∷ []) (kidsIn parent count whole rows places c handed w) next rest-split one two after n three last l)
+          emitted-both store (partIn kids below whole rows places c handed w) (c ∷ []) rest at part-split out one next m three last
+          (emitted-both store rest (many ∷ []) (kidsIn kids below whole rows places c handed w) next rest-split one two after n three last l)
 
 pub ruleset part-laws = (part-path, part-many, part-kids, part-end)
 
 -- ---- the parts on a path
 
-module _ (store : Bool) (parent : ℕ → ℕ) (count whole : ℕ) (rows places : List ℕ) (R : ℕ → ℕ → ℕ) (c left : ℕ) (out : List ℕ) (at : ℕ)
-    (all out₀ : List ℕ) (at₀ : ℕ) (inv : Left store (eachOf (onePartIn parent count whole rows places R c) (members left)) out at all out₀ at₀)
+module _ (store : Bool) (parent : ℕ → ℕ) (count : ℕ) (kids below : List ℕ) (whole : ℕ) (rows places : List ℕ) (R : ℕ → ℕ → ℕ) (c left : ℕ) (out : List ℕ) (at : ℕ)
+    (all out₀ : List ℕ) (at₀ : ℕ) (inv : Left store (eachOf (onePartIn parent count kids below whole rows places R c) (members left)) out at all out₀ at₀)
     (some : left ≡ 0 → ⊥) (fits : left < 2 ^ 64) (x w : ℕ) (low : x ≡ lowest left) (is : w ≡ oneKids parent count R c x) where
-  pub one-room : Room (partIn parent count whole rows places c false w) at
+  pub one-room : Room (partIn kids below whole rows places c false w) at
   unfolding onePartIn
-  one-room = rw is (each-room store (onePartIn parent count whole rows places R c) left out at all out₀ at₀ inv x some fits low)
+  one-room = rw is (each-room store (onePartIn parent count kids below whole rows places R c) left out at all out₀ at₀ inv x some fits low)
 
   pub one-on : (next : ℕ) (after : List ℕ) (place : ℕ) → next ≡ withoutLowest left
-      → Emitted store (partIn parent count whole rows places c false w) out at after place
-      → Left store (eachOf (onePartIn parent count whole rows places R c) (members next)) after place all out₀ at₀
+      → Emitted store (partIn kids below whole rows places c false w) out at after place
+      → Left store (eachOf (onePartIn parent count kids below whole rows places R c) (members next)) after place all out₀ at₀
   unfolding onePartIn
   one-on next after place e m =
-      each-on store (onePartIn parent count whole rows places R c) left out at all out₀ at₀ inv x next after place some fits low e (rw is at m)
+      each-on store (onePartIn parent count kids below whole rows places R c) left out at all out₀ at₀ inv x next after place some fits low e (rw is at m)
 
 pub ruleset one-laws = (left-start, one-room, one-on, each-end, set-laws)
 
-module _ (parent : ℕ → ℕ) (count whole : ℕ) (rows places : List ℕ) (R : ℕ → ℕ → ℕ) (goals top c at : ℕ) (t : Bool) (is : t ≡ hasb whole c) where
+module _ (parent : ℕ → ℕ) (count : ℕ) (kids below : List ℕ) (whole : ℕ) (rows places : List ℕ) (R : ℕ → ℕ → ℕ) (goals top c at : ℕ) (t : Bool) (is : t ≡ hasb whole c) where
   module _ (w : ℕ) (h : t ≡ true) (e : w ≡ allKids parent count R (startOf goals top) c) where
-    whole-part : wholePartIn parent count whole rows places R (startOf goals top) c ≡ partIn parent count whole rows places c true w
+    whole-part : wholePartIn parent count kids below whole rows places R (startOf goals top) c ≡ partIn kids below whole rows places c true w
     unfolding wholePartIn
     whole-part = rw (wholePartIn, ← is, h, ← e)
 
-    pub all-room : Room (wholePartIn parent count whole rows places R (startOf goals top) c) at → Room (partIn parent count whole rows places c true w) at
+    pub all-room : Room (wholePartIn parent count kids below whole rows places R (startOf goals top) c) at → Room (partIn kids below whole rows places c true w) at
     all-room r = rw whole-part at r
 
-    pub all-in : (store : Bool) (out after : List ℕ) (next : ℕ) → Emitted store (partIn parent count whole rows places c true w) out at after next
-        → Emitted store (wholePartIn parent count whole rows places R (startOf goals top) c) out at after next
+    pub all-in : (store : Bool) (out after : List ℕ) (next : ℕ) → Emitted store (partIn kids below whole rows places c true w) out at after next
+        → Emitted store (wholePartIn parent count kids below whole rows places R (startOf goals top) c) out at after next
     all-in store out after next m = rw whole-part m
 
   pub all-out : (store : Bool) (out : List ℕ) → t ≡ false
-      → Emitted store (wholePartIn parent count whole rows places R (startOf goals top) c) out at out at
+      → Emitted store (wholePartIn parent count kids below whole rows places R (startOf goals top) c) out at out at
   unfolding wholePartIn
   all-out store out h =
-      emitted-none store (wholePartIn parent count whole rows places R (startOf goals top) c) out at (rw (wholePartIn, ← is, h))
+      emitted-none store (wholePartIn parent count kids below whole rows places R (startOf goals top) c) out at (rw (wholePartIn, ← is, h))
 
 pub ruleset all-laws = (all-room, all-in, all-out)
 
-module _ (parent : ℕ → ℕ) (count whole : ℕ) (rows places : List ℕ) (R : ℕ → ℕ → ℕ) (start : Start) (c at : ℕ) where
+module _ (parent : ℕ → ℕ) (count : ℕ) (kids below : List ℕ) (whole : ℕ) (rows places : List ℕ) (R : ℕ → ℕ → ℕ) (start : Start) (c at : ℕ) where
   ones : List ℕ
-  ones = eachOf (onePartIn parent count whole rows places R c) (members (getD rows c 0))
+  ones = eachOf (onePartIn parent count kids below whole rows places R c) (members (getD rows c 0))
 
-  path-split : partsNumbers parent count whole rows places R start c ≡ wholePartIn parent count whole rows places R start c ++ ones
+  path-split : partsNumbers parent count kids below whole rows places R start c ≡ wholePartIn parent count kids below whole rows places R start c ++ ones
   unfolding partsNumbers ones
   path-split = refl
 
-  pub path-first : Room (partsNumbers parent count whole rows places R start c) at → Room (wholePartIn parent count whole rows places R start c) at
+  pub path-first : Room (partsNumbers parent count kids below whole rows places R start c) at → Room (wholePartIn parent count kids below whole rows places R start c) at
   path-first r =
-      room-first true (partsNumbers parent count whole rows places R start c) (wholePartIn parent count whole rows places R start c) ones at
+      room-first true (partsNumbers parent count kids below whole rows places R start c) (wholePartIn parent count kids below whole rows places R start c) ones at
       path-split r
 
-  module _ (store : Bool) (out one : List ℕ) (next : ℕ) (m : Emitted store (wholePartIn parent count whole rows places R start c) out at one next) where
-    pub path-second : Room (partsNumbers parent count whole rows places R start c) at
-        → Room (eachOf (onePartIn parent count whole rows places R c) (members (getD rows c 0))) next
+  module _ (store : Bool) (out one : List ℕ) (next : ℕ) (m : Emitted store (wholePartIn parent count kids below whole rows places R start c) out at one next) where
+    pub path-second : Room (partsNumbers parent count kids below whole rows places R start c) at
+        → Room (eachOf (onePartIn parent count kids below whole rows places R c) (members (getD rows c 0))) next
     unfolding ones
     path-second r =
-        room-second store (partsNumbers parent count whole rows places R start c) (wholePartIn parent count whole rows places R start c) ones at
+        room-second store (partsNumbers parent count kids below whole rows places R start c) (wholePartIn parent count kids below whole rows places R start c) ones at
         path-split out one next m r
 
     pub path-both : (two : List ℕ) (last : ℕ)
-        → Emitted store (eachOf (onePartIn parent count whole rows places R c) (members (getD rows c 0))) one next two last
-        → Emitted store (partsNumbers parent count whole rows places R start c) out at two last
+        → Emitted store (eachOf (onePartIn parent count kids below whole rows places R c) (members (getD rows c 0))) one next two last
+        → Emitted store (partsNumbers parent count kids below whole rows places R start c) out at two last
     unfolding ones
     path-both two last n =
-        emitted-both store (partsNumbers parent count whole rows places R start c) (wholePartIn parent count whole rows places R start c) ones at
+        emitted-both store (partsNumbers parent count kids below whole rows places R start c) (wholePartIn parent count kids below whole rows places R start c) ones at
         path-split out one next m two last n
 
 pub ruleset path-laws = (path-first, path-second, path-both)
 
 -- ---- the parts on all paths
 
-pub layer-room : (store : Bool) (parent : ℕ → ℕ) (count whole : ℕ) (rows places : List ℕ) (R : ℕ → ℕ → ℕ) (start : Start) (left : ℕ) (out : List ℕ)
+pub layer-room : (store : Bool) (parent : ℕ → ℕ) (count : ℕ) (kids below : List ℕ) (whole : ℕ) (rows places : List ℕ) (R : ℕ → ℕ → ℕ) (start : Start) (left : ℕ) (out : List ℕ)
     (at : ℕ) (all out₀ : List ℕ) (at₀ x : ℕ)
-    → Left store (eachOf (partsNumbers parent count whole rows places R start) (members left)) out at all out₀ at₀
-    → (left ≡ 0 → ⊥) → left < 2 ^ 64 → x ≡ lowest left → Room (partsNumbers parent count whole rows places R start x) at
-layer-room store parent count whole rows places R start left out at all out₀ at₀ x inv some fits e =
-    each-room store (partsNumbers parent count whole rows places R start) left out at all out₀ at₀ inv x some fits e
+    → Left store (eachOf (partsNumbers parent count kids below whole rows places R start) (members left)) out at all out₀ at₀
+    → (left ≡ 0 → ⊥) → left < 2 ^ 64 → x ≡ lowest left → Room (partsNumbers parent count kids below whole rows places R start x) at
+layer-room store parent count kids below whole rows places R start left out at all out₀ at₀ x inv some fits e =
+    each-room store (partsNumbers parent count kids below whole rows places R start) left out at all out₀ at₀ inv x some fits e
 
 pub ruleset layer-laws = (left-start, layer-room, each-on, each-end, set-laws)
 
@@ -302,11 +301,11 @@ module _ (store : Bool) (f : ℕ → List ℕ) (parent : ℕ → ℕ) (count : �
     layers-end h =
         left-end store (eachOf f (layersFrom parent count (9 - d) d)) out at all out₀ at₀ inv (ap (eachOf f) (layers-none parent count d h))
 
-pub layers-room : (store : Bool) (parent : ℕ → ℕ) (count whole : ℕ) (rows places : List ℕ) (R : ℕ → ℕ → ℕ) (start : Start) (d : ℕ) (out : List ℕ)
+pub layers-room : (store : Bool) (parent : ℕ → ℕ) (count : ℕ) (kids below : List ℕ) (whole : ℕ) (rows places : List ℕ) (R : ℕ → ℕ → ℕ) (start : Start) (d : ℕ) (out : List ℕ)
     (at : ℕ) (all out₀ : List ℕ) (at₀ w : ℕ)
-    → Left store (eachOf (partsNumbers parent count whole rows places R start) (layersFrom parent count (9 - d) d)) out at all out₀ at₀
-    → d < 9 → w ≡ layer parent count d → Room (eachOf (partsNumbers parent count whole rows places R start) (members w)) at
-layers-room store parent count whole rows places R start d out at all out₀ at₀ w inv h e =
-    layers-room-of store (partsNumbers parent count whole rows places R start) parent count d out at all out₀ at₀ inv w h e
+    → Left store (eachOf (partsNumbers parent count kids below whole rows places R start) (layersFrom parent count (9 - d) d)) out at all out₀ at₀
+    → d < 9 → w ≡ layer parent count d → Room (eachOf (partsNumbers parent count kids below whole rows places R start) (members w)) at
+layers-room store parent count kids below whole rows places R start d out at all out₀ at₀ w inv h e =
+    layers-room-of store (partsNumbers parent count kids below whole rows places R start) parent count d out at all out₀ at₀ inv w h e
 
 pub ruleset layers-laws = (layers-start, layers-room, layers-on, layers-end)

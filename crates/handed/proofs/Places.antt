@@ -83,7 +83,7 @@ child-on parent x c w above r h e f g = rw (add-one x, passing, lt-ltb 0 x h) (g
 pub child-end : (parent : ℕ → ℕ) (x count c w : ℕ) → w ≡ childPaths parent x c → x ≤ count → count ≤ x → w ≡ childPaths parent count c
 child-end parent x count c w e h k = e ∙ ap (λ (n : ℕ). childPaths parent n c) (omega arith)
 
-pub ruleset child-paths-laws = (child-start, child-end, under-end)
+pub ruleset child-paths-laws = (child-start, child-end)
 
 where-agree : (depth : List ℕ) (level : ℕ → ℕ) (d n : ℕ) → ((x : ℕ) → x < n → getD depth x 0 ≡ level x)
     → passing (λ x. eqb (getD depth x 0) d) n ≡ passing (λ x. eqb (level x) d) n

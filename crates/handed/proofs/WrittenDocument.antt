@@ -46,6 +46,7 @@ use Rattle.handed.specs.Emit.{
   Room,
   Emitted,
   Writable,
+  PathWords,
   partsIn,
   placed,
   numberIn,
@@ -174,57 +175,62 @@ module _ (parent : ℕ → ℕ) (count : ℕ) (R : ℕ → ℕ → ℕ) (start :
     ones-same k h [] = refl
     ones-same k h (g ∷ l) = ap₂ (λ (n : ℕ) (r : List ℕ). n ∷ r) (rw (found k h, same k)) (ones-same k h l)
 
-    under-same : (handed : Bool) (w k : ℕ) → k < count
-        → kidsUnder parent count whole rows places handed w k ≡ kidsOn parent count R start whole row order handed w k
-    unfolding kidsUnder kidsOn wholeNumber
-    under-same handed w k h =
-        ap₂ (λ (x y : List ℕ). x ++ y) (ap (onlyIf (handed && hasb whole k)) (found k h)) (ones-same k h (members (common w (subtree parent count k))))
+    module _ (kids below : List ℕ) (children : PathWords (childPaths parent count) count kids) (beneath : PathWords (subtree parent count) count below) where
+      under-same : (handed : Bool) (w k : ℕ) → k < count
+          → kidsUnder below whole rows places handed w k ≡ kidsOn parent count R start whole row order handed w k
+      unfolding kidsUnder kidsOn wholeNumber
+      under-same handed w k h =
+          ap₂ (λ (x y : List ℕ). x ++ y) (ap (onlyIf (handed && hasb whole k)) (found k h))
+          (ap (λ (s : ℕ). eachOf (oneNumber whole rows places k) (members (common w s))) (beneath .each k h)
+          ∙ ones-same k h (members (common w (subtree parent count k))))
 
-    kids-are : (c : ℕ) (handed : Bool) (w : ℕ)
-        → kidsIn parent count whole rows places c handed w ≡ entryOn parent count R start whole row order c handed w .kids
-    unfolding kidsIn entryOn
-    kids-are c handed w =
-        each-same (kidsUnder parent count whole rows places handed w) (kidsOn parent count R start whole row order handed w)
-        (members (childPaths parent count c)) (λ k m. under-same handed w k (child-mem parent count few c k .0 m .1))
+      module _ (c : ℕ) (inside : c < count) where
+        kids-are : (handed : Bool) (w : ℕ)
+            → kidsIn kids below whole rows places c handed w ≡ entryOn parent count R start whole row order c handed w .kids
+        unfolding kidsIn entryOn
+        kids-are handed w =
+            ap (λ (s : ℕ). eachOf (kidsUnder below whole rows places handed w) (members s)) (children .each c inside)
+            ∙ each-same (kidsUnder below whole rows places handed w) (kidsOn parent count R start whole row order handed w)
+            (members (childPaths parent count c)) (λ k m. under-same handed w k (child-mem parent count few c k .0 m .1))
 
-    part-is : (c : ℕ) (handed : Bool) (w : ℕ) (rest : List Entry)
-        → partIn parent count whole rows places c handed w ++ partNumbers rest
-        ≡ partNumbers (entryOn parent count R start whole row order c handed w ∷ rest)
-    unfolding partIn partNumbers entryOn
-    part-is c handed w rest = ap (λ (l : List ℕ). c ∷ length l ∷ (l ++ partNumbers rest)) (kids-are c handed w)
+        part-is : (handed : Bool) (w : ℕ) (rest : List Entry)
+            → partIn kids below whole rows places c handed w ++ partNumbers rest
+            ≡ partNumbers (entryOn parent count R start whole row order c handed w ∷ rest)
+        unfolding partIn partNumbers entryOn
+        part-is handed w rest = ap (λ (l : List ℕ). c ∷ length l ∷ (l ++ partNumbers rest)) (kids-are handed w)
 
-    ones-are : (c : ℕ) (l : List ℕ) → eachOf (onePartIn parent count whole rows places R c) l
-        ≡ partNumbers (map (λ g. entryOn parent count R start whole row order c false (oneKids parent count R c g)) l)
-    unfolding eachOf onePartIn partNumbers
-    ones-are c [] = refl
-    ones-are c (g ∷ l) =
-        ap (λ (r : List ℕ). partIn parent count whole rows places c false (oneKids parent count R c g) ++ r) (ones-are c l)
-        ∙ part-is c false (oneKids parent count R c g)
-        (map (λ g. entryOn parent count R start whole row order c false (oneKids parent count R c g)) l)
+        ones-are : (l : List ℕ) → eachOf (onePartIn parent count kids below whole rows places R c) l
+            ≡ partNumbers (map (λ g. entryOn parent count R start whole row order c false (oneKids parent count R c g)) l)
+        unfolding eachOf onePartIn partNumbers
+        ones-are [] = refl
+        ones-are (g ∷ l) =
+            ap (λ (r : List ℕ). partIn kids below whole rows places c false (oneKids parent count R c g) ++ r) (ones-are l)
+            ∙ part-is false (oneKids parent count R c g)
+            (map (λ g. entryOn parent count R start whole row order c false (oneKids parent count R c g)) l)
 
-    whole-is : (c : ℕ) (b : Bool) → hasb whole c ≡ b → wholePartIn parent count whole rows places R start c
-        ≡ partNumbers (onlyIf b (entryOn parent count R start whole row order c true (allKids parent count R start c)))
-    unfolding wholePartIn onlyIf partNumbers
-    whole-is c true e =
-        rw (wholePartIn, e)
-        (sym (append-nil (partIn parent count whole rows places c true (allKids parent count R start c)))
-        ∙ part-is c true (allKids parent count R start c) [])
-    whole-is c false e = rw (wholePartIn, e)
+        whole-is : (b : Bool) → hasb whole c ≡ b → wholePartIn parent count kids below whole rows places R start c
+            ≡ partNumbers (onlyIf b (entryOn parent count R start whole row order c true (allKids parent count R start c)))
+        unfolding wholePartIn onlyIf partNumbers
+        whole-is true e =
+            rw (wholePartIn, e)
+            (sym (append-nil (partIn kids below whole rows places c true (allKids parent count R start c)))
+            ∙ part-is true (allKids parent count R start c) [])
+        whole-is false e = rw (wholePartIn, e)
 
-    path-is : (c : ℕ) → partsNumbers parent count whole rows places R start c ≡ partNumbers (entriesOn parent count R start whole row order c)
-    unfolding partsNumbers entriesOn
-    path-is c =
-        ap₂ (λ (x y : List ℕ). x ++ y) (whole-is c (hasb whole c) refl)
-        (ap (λ (w : ℕ). eachOf (onePartIn parent count whole rows places R c) (members w)) (same c) ∙ ones-are c (members (getD row c 0)))
-        ∙ sym (part-append (onlyIf (hasb whole c) _) _)
+        path-is : partsNumbers parent count kids below whole rows places R start c ≡ partNumbers (entriesOn parent count R start whole row order c)
+        unfolding partsNumbers entriesOn
+        path-is =
+            ap₂ (λ (x y : List ℕ). x ++ y) (whole-is (hasb whole c) refl)
+            (ap (λ (w : ℕ). eachOf (onePartIn parent count kids below whole rows places R c) (members w)) (same c) ∙ ones-are (members (getD row c 0)))
+            ∙ sym (part-append (onlyIf (hasb whole c) _) _)
 
-    all-are : (l : List ℕ) → eachOf (partsNumbers parent count whole rows places R start) l
-        ≡ partNumbers (eachOf (entriesOn parent count R start whole row order) l)
-    unfolding eachOf partNumbers
-    all-are [] = refl
-    all-are (c ∷ l) =
-        ap₂ (λ (x y : List ℕ). x ++ y) (path-is c) (all-are l)
-        ∙ sym (part-append (entriesOn parent count R start whole row order c) (eachOf (entriesOn parent count R start whole row order) l))
+      all-are : (l : List ℕ) → ((c : ℕ) → List·Memᴰ c l → c < count) → eachOf (partsNumbers parent count kids below whole rows places R start) l
+          ≡ partNumbers (eachOf (entriesOn parent count R start whole row order) l)
+      unfolding eachOf partNumbers
+      all-are [] inside = refl
+      all-are (c ∷ l) inside =
+          ap₂ (λ (x y : List ℕ). x ++ y) (path-is c (inside c (List·Memᴰ·head refl))) (all-are l (λ d m. inside d (List·Memᴰ·tail m)))
+          ∙ sym (part-append (entriesOn parent count R start whole row order c) (eachOf (entriesOn parent count R start whole row order) l))
 
 -- ---- the document
 
@@ -240,7 +246,8 @@ module _ (parent depth table : List ℕ) (count goals top whole parts : ℕ) (ro
     (known : Writable parent depth table count goals top) (w : whole ≡ chainOf (parentOf parent) goals top)
     (r : rows ≡ padded 64 (goalRows (parentOf parent) count (wordFor depth table count) (startOf goals top)))
     (p : parts ≡ partsIn whole rows (pathOrder (parentOf parent) count))
-    (l : places ≡ placed whole rows (pathOrder (parentOf parent) count) 0 (replicate 64 0)) where
+    (l : places ≡ placed whole rows (pathOrder (parentOf parent) count) 0 (replicate 64 0)) (kids below : List ℕ)
+    (children : PathWords (childPaths (parentOf parent) count) count kids) (beneath : PathWords (subtree (parentOf parent) count) count below) where
   abbrev R : ℕ → ℕ → ℕ
   R = wordFor depth table count
 
@@ -265,27 +272,28 @@ module _ (parent depth table : List ℕ) (count goals top whole parts : ℕ) (ro
       ∙ places-are (parentOf parent) count whole rows k (parents .descending) (parents .few) (parents .shallow) h
       ∙ place-same (parentOf parent) count R start whole rows row places (parents .few) same-rows order k
 
-  numbers-are : parts ∷ eachOf (partsNumbers (parentOf parent) count whole rows places R start) order ≡ handedNumbers (parentOf parent) count R start
+  numbers-are : parts ∷ eachOf (partsNumbers (parentOf parent) count kids below whole rows places R start) order ≡ handedNumbers (parentOf parent) count R start
   unfolding handedNumbers documentNumbers handedEntries
   numbers-are =
       ap₂ (λ (x : ℕ) (y : List ℕ). x ∷ y)
       (p ∙ sym (all-count (parentOf parent) count R start whole rows row places (parents .few) same-rows order order))
-      (all-are (parentOf parent) count R start whole rows row places (parents .few) same-rows order found order)
+      (all-are (parentOf parent) count R start whole rows row places (parents .few) same-rows order found kids below children beneath order
+      (order-in-table (parentOf parent) count (parents .few)))
       ∙ ap (λ (z : ℕ). documentNumbers (eachOf (entriesOn (parentOf parent) count R start z row order) order))
       (w ∙ sym (chain-same (parentOf parent) count R goals top))
 
-  wrapped-are : wrapped (parts ∷ eachOf (partsNumbers (parentOf parent) count whole rows places R start) order)
+  wrapped-are : wrapped (parts ∷ eachOf (partsNumbers (parentOf parent) count kids below whole rows places R start) order)
       ≡ handedNumbers (parentOf parent) count R start
   wrapped-are = ap wrapped numbers-are ∙ wrapped-same (handedNumbers (parentOf parent) count R start) (known .small)
 
-  pub document-room : Room (parts ∷ eachOf (partsNumbers (parentOf parent) count whole rows places (wordFor depth table count) (startOf goals top))
+  pub document-room : Room (parts ∷ eachOf (partsNumbers (parentOf parent) count kids below whole rows places (wordFor depth table count) (startOf goals top))
       (pathOrder (parentOf parent) count)) 0
   unfolding sizeOf
   document-room = record { room = omega (arith, ap (λ (z : List ℕ). length (bytesOfAll z)) wrapped-are, known .short) }
 
   pub document-puts : (out after : List ℕ) (answer : Written)
       → Puts (put (bytesOfAll (wrapped (parts ∷ eachOf
-      (partsNumbers (parentOf parent) count whole rows places (wordFor depth table count) (startOf goals top))
+      (partsNumbers (parentOf parent) count kids below whole rows places (wordFor depth table count) (startOf goals top))
       (pathOrder (parentOf parent) count)))) out) answer after
       → Puts (put (bytesOfAll (handedNumbers (parentOf parent) count (wordFor depth table count) (startOf goals top))) out) answer after
   document-puts out after answer h = subst (λ (z : List ℕ). Puts (put (bytesOfAll z) out) answer after) wrapped-are h

@@ -10,12 +10,11 @@ use lib.Seq.{sets}
 use Rattle.files.specs.Number.{bytesOfAll}
 use Rattle.files.specs.Writing.{wrapped}
 use Rattle.files.specs.Sets.{bit, hasb, withPath, common, sizeBelow, members}
-use Rattle.theory.specs.Reachable.{subtree}
 use Rattle.theory.specs.Least.{passing}
 use Rattle.reachable.specs.Arrays.{parentOf, Parents}
 use Rattle.reachable.specs.Known.{DepthsIn}
 use Rattle.handed.specs.Writer.{wordFor, Tabled, startOf}
-use Rattle.theory.specs.Handed.{Start, eachOf, onlyIf, allKids, oneKids, partsOn, childPaths, handedNumbers}
+use Rattle.theory.specs.Handed.{Start, eachOf, onlyIf, allKids, oneKids, partsOn, handedNumbers}
 
 -- how many bytes numbers take, each modulo the limit
 unfoldable pub sizeOf : List ℕ → ℕ
@@ -48,6 +47,10 @@ pub record Writable (parent depth table : List ℕ) (count goals top : ℕ) : Ty
   pub small : (n : ℕ) → List·Memᴰ n (handedNumbers (parentOf parent) count (wordFor depth table count) (startOf goals top)) → n ≤ 449
   pub short : length (bytesOfAll (handedNumbers (parentOf parent) count (wordFor depth table count) (startOf goals top))) ≤ 65536
 
+-- an array has the word of each path of the table
+pub record PathWords (word : ℕ → ℕ) (count : ℕ) (words : List ℕ) : Type 0 where
+  pub each : (x : ℕ) → x < count → getD words x 0 ≡ word x
+
 -- a set with path x too if a test passes
 unfoldable pub withIf : (w : ℕ) (test : Bool) (x : ℕ) → ℕ
 withIf w test x = elim test [ true ↦ withPath w x | false ↦ w ]
@@ -78,27 +81,28 @@ oneNumber whole rows places k g = numberIn whole rows places k g ∷ []
 unfoldable pub wholeNumber : (whole : ℕ) (places : List ℕ) (handed : Bool) (k : ℕ) → List ℕ
 wholeNumber whole places handed k = onlyIf (handed && hasb whole k) (getD places k 0)
 
-module _ (parent : ℕ → ℕ) (count whole : ℕ) (rows places : List ℕ) where
-  -- the numbers of a part's children on path k, where the one-goal children's goals are w
-  unfoldable pub kidsUnder : (handed : Bool) (w k : ℕ) → List ℕ
-  kidsUnder handed w k =
-      wholeNumber whole places handed k ++ eachOf (oneNumber whole rows places k) (members (common w (subtree parent count k)))
+-- the numbers of a part's children on path k, where the one-goal children's goals are w
+unfoldable pub kidsUnder : (below : List ℕ) (whole : ℕ) (rows places : List ℕ) (handed : Bool) (w k : ℕ) → List ℕ
+kidsUnder below whole rows places handed w k =
+    wholeNumber whole places handed k ++ eachOf (oneNumber whole rows places k) (members (common w (getD below k 0)))
 
+module _ (kids below : List ℕ) (whole : ℕ) (rows places : List ℕ) where
   -- the numbers of the children of a part on path c
   unfoldable pub kidsIn : (c : ℕ) (handed : Bool) (w : ℕ) → List ℕ
-  kidsIn c handed w = eachOf (kidsUnder handed w) (members (childPaths parent count c))
+  kidsIn c handed w = eachOf (kidsUnder below whole rows places handed w) (members (getD kids c 0))
 
   -- the numbers of a part on path c: its path, its child count and its children
   unfoldable pub partIn : (c : ℕ) (handed : Bool) (w : ℕ) → List ℕ
   partIn c handed w = c ∷ length (kidsIn c handed w) ∷ kidsIn c handed w
 
+module _ (parent : ℕ → ℕ) (count : ℕ) (kids below : List ℕ) (whole : ℕ) (rows places : List ℕ) where
   -- the numbers of the part on path c with the one goal g
   unfoldable pub onePartIn : (R : ℕ → ℕ → ℕ) (c g : ℕ) → List ℕ
-  onePartIn R c g = partIn c false (oneKids parent count R c g)
+  onePartIn R c g = partIn kids below whole rows places c false (oneKids parent count R c g)
 
   -- the numbers of the part on path c with all goals, if there is one
   unfoldable pub wholePartIn : (R : ℕ → ℕ → ℕ) (start : Start) (c : ℕ) → List ℕ
-  wholePartIn R start c = elim (hasb whole c) [ true ↦ partIn c true (allKids parent count R start c) | false ↦ [] ]
+  wholePartIn R start c = elim (hasb whole c) [ true ↦ partIn kids below whole rows places c true (allKids parent count R start c) | false ↦ [] ]
 
   -- the numbers of the parts on path c
   unfoldable pub partsNumbers : (R : ℕ → ℕ → ℕ) (start : Start) (c : ℕ) → List ℕ

@@ -16,6 +16,8 @@ use crate::goals::goal_rows;
 use crate::goals::one_kids;
 use crate::numbering::layer_of;
 use crate::numbering::place_all;
+use crate::words::below_words;
+use crate::words::kid_words;
 use files::sets;
 use files::write::Written;
 
@@ -30,6 +32,8 @@ fn emit_ones(
     depth: &[u8; 64],
     table: &[u64; 512],
     count: usize,
+    kids: &[u64; 64],
+    below: &[u64; 64],
     whole: u64,
     rows: &[u64; 64],
     places: &[u32; 64],
@@ -39,16 +43,16 @@ fn emit_ones(
     out: &mut [u8],
     start: usize,
 ) -> usize
-    requires { ⌜ Parents (now parent) count × Tabled (now depth) count × Room (eachOf (onePartIn (parentOf (now parent)) count whole (now rows) (now places) (wordFor (now depth) (now table) count) c) (members goals)) start ⌝ }
-    ensures { λ r. ⌜ Emitted store (eachOf (onePartIn (parentOf (now (parent .entry))) count whole (now (rows .entry)) (now (places .entry)) (wordFor (now (depth .entry)) (now (table .entry)) count) c) (members goals)) (now (out .entry)) start (now (out .exit)) r ⌝ }
+    requires { ⌜ Parents (now parent) count × Tabled (now depth) count × (c < 64) × Room (eachOf (onePartIn (parentOf (now parent)) count (now kids) (now below) whole (now rows) (now places) (wordFor (now depth) (now table) count) c) (members goals)) start ⌝ }
+    ensures { λ r. ⌜ Emitted store (eachOf (onePartIn (parentOf (now (parent .entry))) count (now (kids .entry)) (now (below .entry)) whole (now (rows .entry)) (now (places .entry)) (wordFor (now (depth .entry)) (now (table .entry)) count) c) (members goals)) (now (out .entry)) start (now (out .exit)) r ⌝ }
 {
     let mut left = goals;
     let mut at = start;
     while left != 0 {
         let w = one_kids(parent, depth, table, count, c, sets::lowest(left));
         at = emit_part(
-            parent,
-            count,
+            kids,
+            below,
             whole,
             rows,
             places,
@@ -70,6 +74,8 @@ fn emit_whole_part(
     depth: &[u8; 64],
     table: &[u64; 512],
     count: usize,
+    kids: &[u64; 64],
+    below: &[u64; 64],
     goals: u64,
     top: usize,
     whole: u64,
@@ -80,24 +86,12 @@ fn emit_whole_part(
     out: &mut [u8],
     at: usize,
 ) -> usize
-    requires { ⌜ Ready (now parent) (now depth) count top × Room (wholePartIn (parentOf (now parent)) count whole (now rows) (now places) (wordFor (now depth) (now table) count) (startOf goals top) c) at ⌝ }
-    ensures { λ r. ⌜ Emitted store (wholePartIn (parentOf (now (parent .entry))) count whole (now (rows .entry)) (now (places .entry)) (wordFor (now (depth .entry)) (now (table .entry)) count) (startOf goals top) c) (now (out .entry)) at (now (out .exit)) r ⌝ }
+    requires { ⌜ Ready (now parent) (now depth) count top × (c < 64) × Room (wholePartIn (parentOf (now parent)) count (now kids) (now below) whole (now rows) (now places) (wordFor (now depth) (now table) count) (startOf goals top) c) at ⌝ }
+    ensures { λ r. ⌜ Emitted store (wholePartIn (parentOf (now (parent .entry))) count (now (kids .entry)) (now (below .entry)) whole (now (rows .entry)) (now (places .entry)) (wordFor (now (depth .entry)) (now (table .entry)) count) (startOf goals top) c) (now (out .entry)) at (now (out .exit)) r ⌝ }
 {
     if sets::has(whole, c) {
         let w = all_kids(parent, depth, table, count, goals, top, c);
-        return emit_part(
-            parent,
-            count,
-            whole,
-            rows,
-            places,
-            c,
-            true,
-            w,
-            store,
-            out,
-            at,
-        );
+        return emit_part(kids, below, whole, rows, places, c, true, w, store, out, at);
     }
     at
 }
@@ -108,6 +102,8 @@ fn emit_parts(
     depth: &[u8; 64],
     table: &[u64; 512],
     count: usize,
+    kids: &[u64; 64],
+    below: &[u64; 64],
     goals: u64,
     top: usize,
     whole: u64,
@@ -118,14 +114,16 @@ fn emit_parts(
     out: &mut [u8],
     at: usize,
 ) -> usize
-    requires { ⌜ Ready (now parent) (now depth) count top × (c < 64) × Room (partsNumbers (parentOf (now parent)) count whole (now rows) (now places) (wordFor (now depth) (now table) count) (startOf goals top) c) at ⌝ }
-    ensures { λ r. ⌜ Emitted store (partsNumbers (parentOf (now (parent .entry))) count whole (now (rows .entry)) (now (places .entry)) (wordFor (now (depth .entry)) (now (table .entry)) count) (startOf goals top) c) (now (out .entry)) at (now (out .exit)) r ⌝ }
+    requires { ⌜ Ready (now parent) (now depth) count top × (c < 64) × Room (partsNumbers (parentOf (now parent)) count (now kids) (now below) whole (now rows) (now places) (wordFor (now depth) (now table) count) (startOf goals top) c) at ⌝ }
+    ensures { λ r. ⌜ Emitted store (partsNumbers (parentOf (now (parent .entry))) count (now (kids .entry)) (now (below .entry)) whole (now (rows .entry)) (now (places .entry)) (wordFor (now (depth .entry)) (now (table .entry)) count) (startOf goals top) c) (now (out .entry)) at (now (out .exit)) r ⌝ }
 {
     let next = emit_whole_part(
         parent,
         depth,
         table,
         count,
+        kids,
+        below,
         goals,
         top,
         whole,
@@ -141,6 +139,8 @@ fn emit_parts(
         depth,
         table,
         count,
+        kids,
+        below,
         whole,
         rows,
         places,
@@ -158,6 +158,8 @@ fn emit_layer(
     depth: &[u8; 64],
     table: &[u64; 512],
     count: usize,
+    kids: &[u64; 64],
+    below: &[u64; 64],
     goals: u64,
     top: usize,
     whole: u64,
@@ -168,8 +170,8 @@ fn emit_layer(
     out: &mut [u8],
     start: usize,
 ) -> usize
-    requires { ⌜ Ready (now parent) (now depth) count top × Room (eachOf (partsNumbers (parentOf (now parent)) count whole (now rows) (now places) (wordFor (now depth) (now table) count) (startOf goals top)) (members layer)) start ⌝ }
-    ensures { λ r. ⌜ Emitted store (eachOf (partsNumbers (parentOf (now (parent .entry))) count whole (now (rows .entry)) (now (places .entry)) (wordFor (now (depth .entry)) (now (table .entry)) count) (startOf goals top)) (members layer)) (now (out .entry)) start (now (out .exit)) r ⌝ }
+    requires { ⌜ Ready (now parent) (now depth) count top × Room (eachOf (partsNumbers (parentOf (now parent)) count (now kids) (now below) whole (now rows) (now places) (wordFor (now depth) (now table) count) (startOf goals top)) (members layer)) start ⌝ }
+    ensures { λ r. ⌜ Emitted store (eachOf (partsNumbers (parentOf (now (parent .entry))) count (now (kids .entry)) (now (below .entry)) whole (now (rows .entry)) (now (places .entry)) (wordFor (now (depth .entry)) (now (table .entry)) count) (startOf goals top)) (members layer)) (now (out .entry)) start (now (out .exit)) r ⌝ }
 {
     let mut left = layer;
     let mut at = start;
@@ -179,6 +181,8 @@ fn emit_layer(
             depth,
             table,
             count,
+            kids,
+            below,
             goals,
             top,
             whole,
@@ -200,6 +204,8 @@ fn emit_layers(
     depth: &[u8; 64],
     table: &[u64; 512],
     count: usize,
+    kids: &[u64; 64],
+    below: &[u64; 64],
     goals: u64,
     top: usize,
     whole: u64,
@@ -209,8 +215,8 @@ fn emit_layers(
     out: &mut [u8],
     start: usize,
 ) -> usize
-    requires { ⌜ Ready (now parent) (now depth) count top × Room (eachOf (partsNumbers (parentOf (now parent)) count whole (now rows) (now places) (wordFor (now depth) (now table) count) (startOf goals top)) (pathOrder (parentOf (now parent)) count)) start ⌝ }
-    ensures { λ r. ⌜ Emitted store (eachOf (partsNumbers (parentOf (now (parent .entry))) count whole (now (rows .entry)) (now (places .entry)) (wordFor (now (depth .entry)) (now (table .entry)) count) (startOf goals top)) (pathOrder (parentOf (now (parent .entry))) count)) (now (out .entry)) start (now (out .exit)) r ⌝ }
+    requires { ⌜ Ready (now parent) (now depth) count top × Room (eachOf (partsNumbers (parentOf (now parent)) count (now kids) (now below) whole (now rows) (now places) (wordFor (now depth) (now table) count) (startOf goals top)) (pathOrder (parentOf (now parent)) count)) start ⌝ }
+    ensures { λ r. ⌜ Emitted store (eachOf (partsNumbers (parentOf (now (parent .entry))) count (now (kids .entry)) (now (below .entry)) whole (now (rows .entry)) (now (places .entry)) (wordFor (now (depth .entry)) (now (table .entry)) count) (startOf goals top)) (pathOrder (parentOf (now (parent .entry))) count)) (now (out .entry)) start (now (out .exit)) r ⌝ }
 {
     let mut d = 1usize;
     let mut at = start;
@@ -221,6 +227,8 @@ fn emit_layers(
             depth,
             table,
             count,
+            kids,
+            below,
             goals,
             top,
             whole,
@@ -242,6 +250,8 @@ fn emit_document(
     depth: &[u8; 64],
     table: &[u64; 512],
     count: usize,
+    kids: &[u64; 64],
+    below: &[u64; 64],
     goals: u64,
     top: usize,
     whole: u64,
@@ -252,8 +262,8 @@ fn emit_document(
     out: &mut [u8],
     at: usize,
 ) -> usize
-    requires { ⌜ Ready (now parent) (now depth) count top × Room (parts ∷ eachOf (partsNumbers (parentOf (now parent)) count whole (now rows) (now places) (wordFor (now depth) (now table) count) (startOf goals top)) (pathOrder (parentOf (now parent)) count)) at ⌝ }
-    ensures { λ r. ⌜ Emitted store (parts ∷ eachOf (partsNumbers (parentOf (now (parent .entry))) count whole (now (rows .entry)) (now (places .entry)) (wordFor (now (depth .entry)) (now (table .entry)) count) (startOf goals top)) (pathOrder (parentOf (now (parent .entry))) count)) (now (out .entry)) at (now (out .exit)) r ⌝ }
+    requires { ⌜ Ready (now parent) (now depth) count top × Room (parts ∷ eachOf (partsNumbers (parentOf (now parent)) count (now kids) (now below) whole (now rows) (now places) (wordFor (now depth) (now table) count) (startOf goals top)) (pathOrder (parentOf (now parent)) count)) at ⌝ }
+    ensures { λ r. ⌜ Emitted store (parts ∷ eachOf (partsNumbers (parentOf (now (parent .entry))) count (now (kids .entry)) (now (below .entry)) whole (now (rows .entry)) (now (places .entry)) (wordFor (now (depth .entry)) (now (table .entry)) count) (startOf goals top)) (pathOrder (parentOf (now (parent .entry))) count)) (now (out .entry)) at (now (out .exit)) r ⌝ }
 {
     let next = emit(store, parts, out, at);
     emit_layers(
@@ -261,6 +271,8 @@ fn emit_document(
         depth,
         table,
         count,
+        kids,
+        below,
         goals,
         top,
         whole,
@@ -278,6 +290,8 @@ fn put_document(
     depth: &[u8; 64],
     table: &[u64; 512],
     count: usize,
+    kids: &[u64; 64],
+    below: &[u64; 64],
     goals: u64,
     top: usize,
     whole: u64,
@@ -286,14 +300,16 @@ fn put_document(
     parts: usize,
     out: &mut [u8],
 ) -> Written
-    requires { ⌜ Ready (now parent) (now depth) count top × Room (parts ∷ eachOf (partsNumbers (parentOf (now parent)) count whole (now rows) (now places) (wordFor (now depth) (now table) count) (startOf goals top)) (pathOrder (parentOf (now parent)) count)) 0 ⌝ }
-    ensures { λ r. ⌜ Puts (put (bytesOfAll (wrapped (parts ∷ eachOf (partsNumbers (parentOf (now (parent .entry))) count whole (now (rows .entry)) (now (places .entry)) (wordFor (now (depth .entry)) (now (table .entry)) count) (startOf goals top)) (pathOrder (parentOf (now (parent .entry))) count)))) (now (out .entry))) r (now (out .exit)) ⌝ }
+    requires { ⌜ Ready (now parent) (now depth) count top × Room (parts ∷ eachOf (partsNumbers (parentOf (now parent)) count (now kids) (now below) whole (now rows) (now places) (wordFor (now depth) (now table) count) (startOf goals top)) (pathOrder (parentOf (now parent)) count)) 0 ⌝ }
+    ensures { λ r. ⌜ Puts (put (bytesOfAll (wrapped (parts ∷ eachOf (partsNumbers (parentOf (now (parent .entry))) count (now (kids .entry)) (now (below .entry)) whole (now (rows .entry)) (now (places .entry)) (wordFor (now (depth .entry)) (now (table .entry)) count) (startOf goals top)) (pathOrder (parentOf (now (parent .entry))) count)))) (now (out .entry))) r (now (out .exit)) ⌝ }
 {
     let size = emit_document(
         parent,
         depth,
         table,
         count,
+        kids,
+        below,
         goals,
         top,
         whole,
@@ -312,6 +328,8 @@ fn put_document(
         depth,
         table,
         count,
+        kids,
+        below,
         goals,
         top,
         whole,
@@ -342,11 +360,15 @@ pub fn write_document(
     let rows = goal_rows(parent, depth, table, count, goals, top, whole);
     let mut places = [0u32; 64];
     let parts = place_all(parent, depth, count, whole, &rows, &mut places);
+    let kids = kid_words(parent, count);
+    let below = below_words(parent, count);
     put_document(
         parent,
         depth,
         table,
         count,
+        &kids,
+        &below,
         goals,
         top,
         whole,

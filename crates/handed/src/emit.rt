@@ -4,16 +4,14 @@ ghost use mathlib.Core.Path.{_≡_};
 ghost use mathlib.Core.List.{[], _∷_};
 ghost use lib.ListN.{length};
 ghost use Rattle.files.specs.Sets.{members};
-ghost use Rattle.reachable.specs.Arrays.{parentOf, Parents};
 ghost use Rattle.theory.specs.Handed.{eachOf};
 ghost use Rattle.handed.specs.Emit.{Room, Emitted, oneNumber, wholeNumber, kidsUnder, kidsIn, partIn};
 use crate::numbering::bit_of;
-use crate::numbering::child_paths;
 use crate::numbering::number_of;
 use crate::numbering::place_at;
+use crate::words::word_at;
 use files::number;
 use files::sets;
-use reachable::steps::subtree;
 
 // A number emitted at `at`; the place after it.
 pub(crate) fn emit(store: bool, n: usize, out: &mut [u8], at: usize) -> usize
@@ -79,8 +77,7 @@ fn emit_whole(
 
 // The numbers of a part's children on path k.
 fn emit_kids_under(
-    parent: &[u8; 64],
-    count: usize,
+    below: &[u64; 64],
     whole: u64,
     rows: &[u64; 64],
     places: &[u32; 64],
@@ -91,18 +88,18 @@ fn emit_kids_under(
     out: &mut [u8],
     at: usize,
 ) -> usize
-    requires { ⌜ Parents (now parent) count × (k < count) × Room (kidsUnder (parentOf (now parent)) count whole (now rows) (now places) handed w k) at ⌝ }
-    ensures { λ r. ⌜ Emitted store (kidsUnder (parentOf (now (parent .entry))) count whole (now (rows .entry)) (now (places .entry)) handed w k) (now (out .entry)) at (now (out .exit)) r ⌝ }
+    requires { ⌜ (k < 64) × Room (kidsUnder (now below) whole (now rows) (now places) handed w k) at ⌝ }
+    ensures { λ r. ⌜ Emitted store (kidsUnder (now (below .entry)) whole (now (rows .entry)) (now (places .entry)) handed w k) (now (out .entry)) at (now (out .exit)) r ⌝ }
 {
-    let goals = sets::common(w, subtree(parent, count, k));
+    let goals = sets::common(w, word_at(below, k));
     let next = emit_whole(whole, places, handed, k, store, out, at);
     emit_goals(whole, rows, places, k, goals, store, out, next)
 }
 
 // The numbers of the children of a part on path c.
 fn emit_kids(
-    parent: &[u8; 64],
-    count: usize,
+    kids: &[u64; 64],
+    below: &[u64; 64],
     whole: u64,
     rows: &[u64; 64],
     places: &[u32; 64],
@@ -113,15 +110,14 @@ fn emit_kids(
     out: &mut [u8],
     start: usize,
 ) -> usize
-    requires { ⌜ Parents (now parent) count × Room (kidsIn (parentOf (now parent)) count whole (now rows) (now places) c handed w) start ⌝ }
-    ensures { λ r. ⌜ Emitted store (kidsIn (parentOf (now (parent .entry))) count whole (now (rows .entry)) (now (places .entry)) c handed w) (now (out .entry)) start (now (out .exit)) r ⌝ }
+    requires { ⌜ (c < 64) × Room (kidsIn (now kids) (now below) whole (now rows) (now places) c handed w) start ⌝ }
+    ensures { λ r. ⌜ Emitted store (kidsIn (now (kids .entry)) (now (below .entry)) whole (now (rows .entry)) (now (places .entry)) c handed w) (now (out .entry)) start (now (out .exit)) r ⌝ }
 {
-    let mut left = child_paths(parent, count, c);
+    let mut left = word_at(kids, c);
     let mut at = start;
     while left != 0 {
         at = emit_kids_under(
-            parent,
-            count,
+            below,
             whole,
             rows,
             places,
@@ -148,30 +144,30 @@ fn count_whole(whole: u64, handed: bool, k: usize) -> usize
 }
 
 // How many children on path k a part has.
-fn count_kids_under(
-    parent: &[u8; 64],
-    count: usize,
-    whole: u64,
-    handed: bool,
-    w: u64,
-    k: usize,
-) -> usize
-    requires { ⌜ Parents (now parent) count × (k < count) ⌝ }
-    ensures { λ r. ⌜ (r ≡ length (kidsUnder (parentOf (now (parent .entry))) count whole [] [] handed w k)) × (r ≤ 65) ⌝ }
+fn count_kids_under(below: &[u64; 64], whole: u64, handed: bool, w: u64, k: usize) -> usize
+    requires { ⌜ k < 64 ⌝ }
+    ensures { λ r. ⌜ (r ≡ length (kidsUnder (now (below .entry)) whole [] [] handed w k)) × (r ≤ 65) ⌝ }
 {
-    let goals = sets::common(w, subtree(parent, count, k));
+    let goals = sets::common(w, word_at(below, k));
     count_whole(whole, handed, k) + sets::size(goals)
 }
 
 // How many children a part on path c has. (Their numbers have no part in that: the contract names them with empty arrays.)
-fn count_kids(parent: &[u8; 64], count: usize, whole: u64, c: usize, handed: bool, w: u64) -> usize
-    requires { ⌜ Parents (now parent) count ⌝ }
-    ensures { λ r. ⌜ r ≡ length (kidsIn (parentOf (now (parent .entry))) count whole [] [] c handed w) ⌝ }
+fn count_kids(
+    kids: &[u64; 64],
+    below: &[u64; 64],
+    whole: u64,
+    c: usize,
+    handed: bool,
+    w: u64,
+) -> usize
+    requires { ⌜ c < 64 ⌝ }
+    ensures { λ r. ⌜ r ≡ length (kidsIn (now (kids .entry)) (now (below .entry)) whole [] [] c handed w) ⌝ }
 {
-    let mut left = child_paths(parent, count, c);
+    let mut left = word_at(kids, c);
     let mut many = 0usize;
     while left != 0 {
-        many += count_kids_under(parent, count, whole, handed, w, sets::lowest(left));
+        many += count_kids_under(below, whole, handed, w, sets::lowest(left));
         left = sets::without_lowest(left);
     }
     many
@@ -179,8 +175,8 @@ fn count_kids(parent: &[u8; 64], count: usize, whole: u64, c: usize, handed: boo
 
 // A part on path c: its path, its child count and its children.
 pub(crate) fn emit_part(
-    parent: &[u8; 64],
-    count: usize,
+    kids: &[u64; 64],
+    below: &[u64; 64],
     whole: u64,
     rows: &[u64; 64],
     places: &[u32; 64],
@@ -191,15 +187,15 @@ pub(crate) fn emit_part(
     out: &mut [u8],
     at: usize,
 ) -> usize
-    requires { ⌜ Parents (now parent) count × Room (partIn (parentOf (now parent)) count whole (now rows) (now places) c handed w) at ⌝ }
-    ensures { λ r. ⌜ Emitted store (partIn (parentOf (now (parent .entry))) count whole (now (rows .entry)) (now (places .entry)) c handed w) (now (out .entry)) at (now (out .exit)) r ⌝ }
+    requires { ⌜ (c < 64) × Room (partIn (now kids) (now below) whole (now rows) (now places) c handed w) at ⌝ }
+    ensures { λ r. ⌜ Emitted store (partIn (now (kids .entry)) (now (below .entry)) whole (now (rows .entry)) (now (places .entry)) c handed w) (now (out .entry)) at (now (out .exit)) r ⌝ }
 {
-    let many = count_kids(parent, count, whole, c, handed, w);
+    let many = count_kids(kids, below, whole, c, handed, w);
     let after = emit(store, c, out, at);
     let next = emit(store, many, out, after);
     emit_kids(
-        parent,
-        count,
+        kids,
+        below,
         whole,
         rows,
         places,

@@ -48,7 +48,7 @@ pub(crate) fn layer_of(depth: &[u8; 64], count: usize, d: usize) -> u64
 // The child paths of c.
 pub(crate) fn child_paths(parent: &[u8; 64], count: usize, c: usize) -> u64
     requires { ⌜ Parents (now parent) count ⌝ }
-    ensures { λ r. ⌜ (r ≡ childPaths (parentOf (now (parent .entry))) count c) × (r < 2 ^ count) ⌝ }
+    ensures { λ r. ⌜ r ≡ childPaths (parentOf (now (parent .entry))) count c ⌝ }
 {
     let mut w = 0u64;
     let mut x = 1usize;

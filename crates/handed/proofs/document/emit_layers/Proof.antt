@@ -14,10 +14,10 @@ use Rattle.handed.proofs.EmittingParts.{layers-laws}
 use Rattle.handed.proofs.Places.{layer-same}
 
 abbrev Inv-loop : tie.InvT-loop
-Inv-loop parent depth table count goals top whole rows places store out₀ start d₀ at₀ out d at = (1 ≤ d) × (d ≤ 9) × (length out ≡ length out₀) × Left store (eachOf (partsNumbers (parentOf parent) count whole rows places (wordFor depth table count) (startOf goals top)) (layersFrom (parentOf parent) count (9 - d) d)) out at (eachOf (partsNumbers (parentOf parent) count whole rows places (wordFor depth table count) (startOf goals top)) (pathOrder (parentOf parent) count)) out₀ start
+Inv-loop parent depth table count kids below goals top whole rows places store out₀ start d₀ at₀ out d at = (1 ≤ d) × (d ≤ 9) × (length out ≡ length out₀) × Left store (eachOf (partsNumbers (parentOf parent) count kids below whole rows places (wordFor depth table count) (startOf goals top)) (layersFrom (parentOf parent) count (9 - d) d)) out at (eachOf (partsNumbers (parentOf parent) count kids below whole rows places (wordFor depth table count) (startOf goals top)) (pathOrder (parentOf parent) count)) out₀ start
 
 abbrev μ-loop : tie.MeasureT-loop
-μ-loop parent depth table count goals top whole rows places store out₀ start d₀ at₀ out d at = 9 - d
+μ-loop parent depth table count kids below goals top whole rows places store out₀ start d₀ at₀ out d at = 9 - d
 
 loop-holds : tie.Need-loop-holds Inv-loop μ-loop
 loop-holds c = search (needs, layers-laws, layer-same)

@@ -14,10 +14,10 @@ use Rattle.handed.proofs.Emitting.{Left}
 use Rattle.handed.proofs.EmittingParts.{one-laws}
 
 abbrev Inv-loop : tie.InvT-loop
-Inv-loop parent depth table count whole rows places c goals store out₀ start left₀ at₀ out left at = (left < 2 ^ 64) × (length out ≡ length out₀) × Left store (eachOf (onePartIn (parentOf parent) count whole rows places (wordFor depth table count) c) (members left)) out at (eachOf (onePartIn (parentOf parent) count whole rows places (wordFor depth table count) c) (members goals)) out₀ start
+Inv-loop parent depth table count kids below whole rows places c goals store out₀ start left₀ at₀ out left at = (left < 2 ^ 64) × (length out ≡ length out₀) × Left store (eachOf (onePartIn (parentOf parent) count kids below whole rows places (wordFor depth table count) c) (members left)) out at (eachOf (onePartIn (parentOf parent) count kids below whole rows places (wordFor depth table count) c) (members goals)) out₀ start
 
 abbrev μ-loop : tie.MeasureT-loop
-μ-loop parent depth table count whole rows places c goals store out₀ start left₀ at₀ out left at = left
+μ-loop parent depth table count kids below whole rows places c goals store out₀ start left₀ at₀ out left at = left
 
 loop-holds : tie.Need-loop-holds Inv-loop μ-loop
 loop-holds c = search (needs, one-laws)

@@ -18,7 +18,8 @@ emit-ones-requires c κs =
     let known = c .before .before .before .before .before .before .before .pre in (
       known .0 .parents,
       known .0 .tabled,
-      path-second _ _ _ _ _ _ _ _ _ _ _ _ _ (c .before .before .before .before .emit-whole-part .ensures) (known .2),
+      known .1,
+      path-second _ _ _ _ _ _ _ _ _ _ _ _ _ _ _ (c .before .before .before .before .emit-whole-part .ensures) (known .2),
     )
 
 same-length : tie.Need-same-length

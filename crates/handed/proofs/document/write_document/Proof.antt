@@ -13,6 +13,12 @@ goal-rows-requires c κs = search needs
 place-all-requires : tie.Need-place-all-requires
 place-all-requires c κs = search needs
 
+kid-words-requires : tie.Need-kid-words-requires
+kid-words-requires c κs = search needs
+
+below-words-requires : tie.Need-below-words-requires
+below-words-requires c κs = search needs
+
 put-document-requires : tie.Need-put-document-requires
 put-document-requires c κs = search (needs, document-laws)
 
@@ -29,6 +35,8 @@ write-document-spec =
     chain-requires
     goal-rows-requires
     place-all-requires
+    kid-words-requires
+    below-words-requires
     put-document-requires
     same-length
     returns)

@@ -7,19 +7,18 @@ use mathlib.Core.Path.{_≡_}
 use mathlib.Core.List.{[]}
 use lib.ListN.{length}
 use Rattle.files.specs.Sets.{size, members}
-use Rattle.reachable.specs.Arrays.{parentOf}
 use Rattle.theory.specs.Handed.{eachOf}
 use Rattle.handed.specs.Emit.{kidsUnder, kidsIn}
 use Rattle.handed.proofs.EmittingParts.{many-laws}
 
 abbrev Inv-loop : tie.InvT-loop
-Inv-loop parent count whole c handed w left₀ many₀ left many = (left < 2 ^ 64) × (left < 2 ^ count) × (many + 65 * size left ≤ 4160) × (many + length (eachOf (kidsUnder (parentOf parent) count whole [] [] handed w) (members left)) ≡ length (kidsIn (parentOf parent) count whole [] [] c handed w))
+Inv-loop kids below whole c handed w left₀ many₀ left many = (left < 2 ^ 64) × (many + 65 * size left ≤ 4160) × (many + length (eachOf (kidsUnder below whole [] [] handed w) (members left)) ≡ length (kidsIn kids below whole [] [] c handed w))
 
 abbrev μ-loop : tie.MeasureT-loop
-μ-loop parent count whole c handed w left₀ many₀ left many = left
+μ-loop kids below whole c handed w left₀ many₀ left many = left
 
-child-paths-requires : tie.Need-child-paths-requires Inv-loop μ-loop
-child-paths-requires c κs = search (needs, many-laws)
+word-at-requires : tie.Need-word-at-requires Inv-loop μ-loop
+word-at-requires c κs = search (needs, many-laws)
 
 loop-holds : tie.Need-loop-holds Inv-loop μ-loop
 loop-holds c = search (needs, many-laws)
@@ -51,7 +50,7 @@ count-kids-spec =
     (tie.spec
     Inv-loop
     μ-loop
-    child-paths-requires
+    word-at-requires
     loop-holds
     lowest-requires
     count-kids-under-requires

@@ -4,8 +4,8 @@ use Rattle.handed.proofs.emit.count_kids_under.Statement.{statement}
 use Rattle.handed.proofs.emit.count_kids_under.Tie as tie
 use Rattle.handed.proofs.EmittingParts.{under-counted}
 
-subtree-requires : tie.Need-subtree-requires
-subtree-requires c κs = search needs
+word-at-requires : tie.Need-word-at-requires
+word-at-requires c κs = search needs
 
 common-requires : tie.Need-common-requires
 common-requires c κs = search needs
@@ -26,7 +26,7 @@ pub count-kids-under-spec : {M : Type 1} → statement M
 count-kids-under-spec =
     tie.close
     (tie.spec
-    subtree-requires
+    word-at-requires
     common-requires
     count-whole-requires
     size-requires

@@ -6,19 +6,18 @@ use Prim.Native.Nat.{_^_, _<_}
 use mathlib.Core.Path.{_≡_}
 use lib.ListN.{length}
 use Rattle.files.specs.Sets.{members}
-use Rattle.reachable.specs.Arrays.{parentOf}
 use Rattle.theory.specs.Handed.{eachOf}
 use Rattle.handed.specs.Emit.{kidsUnder, kidsIn}
 use Rattle.handed.proofs.Emitting.{Left, kids-laws}
 
 abbrev Inv-loop : tie.InvT-loop
-Inv-loop parent count whole rows places c handed w store out₀ start left₀ at₀ out left at = (left < 2 ^ 64) × (left < 2 ^ count) × (length out ≡ length out₀) × Left store (eachOf (kidsUnder (parentOf parent) count whole rows places handed w) (members left)) out at (kidsIn (parentOf parent) count whole rows places c handed w) out₀ start
+Inv-loop kids below whole rows places c handed w store out₀ start left₀ at₀ out left at = (left < 2 ^ 64) × (length out ≡ length out₀) × Left store (eachOf (kidsUnder below whole rows places handed w) (members left)) out at (kidsIn kids below whole rows places c handed w) out₀ start
 
 abbrev μ-loop : tie.MeasureT-loop
-μ-loop parent count whole rows places c handed w store out₀ start left₀ at₀ out left at = left
+μ-loop kids below whole rows places c handed w store out₀ start left₀ at₀ out left at = left
 
-child-paths-requires : tie.Need-child-paths-requires Inv-loop μ-loop
-child-paths-requires c κs = search (needs, kids-laws)
+word-at-requires : tie.Need-word-at-requires Inv-loop μ-loop
+word-at-requires c κs = search (needs, kids-laws)
 
 loop-holds : tie.Need-loop-holds Inv-loop μ-loop
 loop-holds c = search (needs, kids-laws)
@@ -50,7 +49,7 @@ emit-kids-spec =
     (tie.spec
     Inv-loop
     μ-loop
-    child-paths-requires
+    word-at-requires
     loop-holds
     lowest-requires
     emit-kids-under-requires

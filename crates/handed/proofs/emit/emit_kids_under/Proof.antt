@@ -4,8 +4,8 @@ use Rattle.handed.proofs.emit.emit_kids_under.Tie as tie
 use borrow.Author.Needs.{needs}
 use Rattle.handed.proofs.Emitting.{under-laws}
 
-subtree-requires : tie.Need-subtree-requires
-subtree-requires c κs = search (needs, under-laws)
+word-at-requires : tie.Need-word-at-requires
+word-at-requires c κs = search (needs, under-laws)
 
 common-requires : tie.Need-common-requires
 common-requires c κs = search (needs, under-laws)
@@ -26,7 +26,7 @@ pub emit-kids-under-spec : {M : Type 1} → statement M
 emit-kids-under-spec =
     tie.close
     (tie.spec
-    subtree-requires
+    word-at-requires
     common-requires
     emit-whole-requires
     emit-goals-requires

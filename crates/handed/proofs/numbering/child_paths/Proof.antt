@@ -2,15 +2,14 @@
 use Rattle.handed.proofs.numbering.child_paths.Statement.{statement}
 use Rattle.handed.proofs.numbering.child_paths.Tie as tie
 use borrow.Author.Needs.{needs}
-use native.Mathlib.Omega.{arith}
-use Prim.Native.Nat.{_-_, _^_, _≤_, _<_}
+use Prim.Native.Nat.{_-_, _≤_}
 use mathlib.Core.Path.{_≡_}
 use Rattle.reachable.specs.Arrays.{parentOf}
 use Rattle.theory.specs.Handed.{childPaths}
-use Rattle.handed.proofs.Places.{with-under, child-on, child-paths-laws}
+use Rattle.handed.proofs.Places.{child-on, child-paths-laws}
 
 abbrev Inv-loop : tie.InvT-loop
-Inv-loop parent count c w₀ x₀ w x = (1 ≤ x) × (x ≤ count) × (w < 2 ^ x) × (w ≡ childPaths (parentOf parent) x c)
+Inv-loop parent count c w₀ x₀ w x = (1 ≤ x) × (x ≤ count) × (w ≡ childPaths (parentOf parent) x c)
 
 abbrev μ-loop : tie.MeasureT-loop
 μ-loop parent count c w₀ x₀ w x = count - x
@@ -35,8 +34,7 @@ loop-again c =
     let inv = c .before .before .before .loop .inv in (
       search needs,
       search needs,
-      with-under _ _ _ _ (inv .2) (omega arith) (c .with-if .ensures),
-      child-on _ _ _ _ (c .before .parent-of .result) _ (inv .0) (inv .3) (c .before .parent-of .ensures .0) (c .with-if .ensures),
+      child-on _ _ _ _ (c .before .parent-of .result) _ (inv .0) (inv .2) (c .before .parent-of .ensures .0) (c .with-if .ensures),
     )
 
 returns : tie.Need-returns Inv-loop μ-loop
