@@ -1,63 +1,19 @@
 -- The numbers of a document: they lead through its format exactly if each part passes its tests after the parts before it.
 use Prim.Native.Nat.{ℕ, zero, suc, _+_, _<_, _≤_}
 use mathlib.Core.Path.{_≡_, refl, sym, ap, subst, _∙_}
-use mathlib.Core.Logic.{⊎-elim}
-use mathlib.Core.List.{List, [], _∷_, _++_, append-nil, List·Memᴰ·head, List·Memᴰ·tail, List·Memᴰ·not-nil, List·Memᴰ·cases-cons}
+use mathlib.Core.List.{List, [], _∷_, _++_, append-nil}
 use native.Mathlib.Omega.{arith}
 use lib.ListN.{length, length-append}
 use lib.Seq.{append-snoc}
+use Rattle.files.specs.RuleFile.{moreAscending}
 use Rattle.files.specs.Format.{done, andThen, Leads, here, take}
 use Rattle.files.specs.Rules.{addAll}
-use Rattle.files.specs.Sets.{Ascending, none, next}
-use Rattle.files.proofs.FileParts.{Within, ascending-few}
+use Rattle.files.specs.Sets.{Ascending}
+use Rattle.files.proofs.FileParts.{Within, AscendingLed, ascending-led, more-ascending-only, more-ascending-if, ascending-few}
 use Rattle.files.proofs.Leading.{leads-want, leads-done, leads-then, Led, led, leads-split}
 use Rattle.files.proofs.Rows.{between-passes}
-use Rattle.documents.specs.PartList.{
-  Entry,
-  namers,
-  pathTest,
-  moreKids,
-  kidsOn,
-  partAt,
-  onePart,
-  moreParts,
-  documentFile,
-  partNumbers,
-  documentNumbers,
-}
+use Rattle.documents.specs.PartList.{Entry, namers, pathTest, kidsOn, partAt, onePart, moreParts, documentFile, partNumbers, documentNumbers}
 use Rattle.documents.proofs.PartReader.{path-small}
-
--- ---- children
-
--- numbers that lead through k children above `last`, after the children ks
-data KidsLed (size last k : ℕ) (ks : List ℕ) : List ℕ → List ℕ → Type 0 where
-  kids-led : (ns : List ℕ) → length ns ≡ k → Ascending (suc last) ns → Within size ns → KidsLed size last k ks ns (ks ++ ns)
-
-more-kids-only : (size k last : ℕ) (ks : List ℕ) {ns ys : List ℕ} → Leads (moreKids size k last ks) ns (done ys)
-    → KidsLed size last k ks ns ys
-unfolding moreKids
-more-kids-only size zero last ks here =
-    subst (KidsLed size last 0 ks []) (append-nil ks) (kids-led [] refl none (λ x m. absurd (List·Memᴰ·not-nil m)))
-more-kids-only size (suc k) last ks (take {n = x} small ok l) = by (more-kids-only size k x (ks ++ (x ∷ [])) l)
-  where
-    h : (last + 1 ≤ x) × (x < size)
-    h = between-passes (last + 1) size 19 x (omega arith) .0 ok
-
-    by : {ns ys : List ℕ} → KidsLed size x k (ks ++ (x ∷ [])) ns ys → KidsLed size last (suc k) ks (x ∷ ns) ys
-    by (kids-led ns e a w) =
-        subst (KidsLed size last (suc k) ks (x ∷ ns)) (sym (append-snoc ks x ns))
-        (kids-led (x ∷ ns) (ap suc e) (next (omega (arith, h .0)) a)
-        (λ y m. ⊎-elim (λ (q : y ≡ x). omega (arith, h .1)) (w y) (List·Memᴰ·cases-cons m)))
-
-more-kids-if : (size last : ℕ) (ks ns : List ℕ) → size ≤ 512 → Ascending (suc last) ns → Within size ns
-    → Leads (moreKids size (length ns) last ks) ns (done (ks ++ ns))
-unfolding moreKids
-more-kids-if size last ks ns few none w = rw (append-nil ks) here
-more-kids-if size last ks ns few (next {x = x} {rest = rest} l a) w =
-    let h : x < size = w x (List·Memᴰ·head refl) in
-    rw (← append-snoc ks x rest)
-    (take {n = x} (omega arith) (between-passes (last + 1) size 19 x (omega arith) .1 (omega arith, h))
-    (more-kids-if size x (ks ++ (x ∷ [])) rest few a (λ y m. w y (List·Memᴰ·tail m))))
 
 -- ---- parts
 
@@ -76,18 +32,18 @@ module _ (parent : ℕ → ℕ) (count size : ℕ) where
   kids-on-only : (n p : ℕ) {ns : List ℕ} {e : Entry} → Leads (kidsOn size n p) ns (done e)
       → (e .path ≡ p) × (ns ≡ length (e .kids) ∷ e .kids) × Ascending (suc n) (e .kids) × Within size (e .kids)
   unfolding kidsOn
-  kids-on-only n p {ns} {e} l = let k = leads-want _ _ l in rw (k .all) (split (leads-split (moreKids size (k .number) n []) _ (k .leads)))
+  kids-on-only n p {ns} {e} l = let k = leads-want _ _ l in rw (k .all) (split (leads-split (moreAscending 19 size (k .number) n []) _ (k .leads)))
     where
       Good : List ℕ → Entry → Type 0
       Good ms x = (x .path ≡ p) × (ms ≡ length (x .kids) ∷ x .kids) × Ascending (suc n) (x .kids) × Within size (x .kids)
 
-      all : {k : ℕ} {ms ks : List ℕ} → KidsLed size n k [] ms ks → Good (k ∷ ms) (record { path = p; kids = ks })
-      all (kids-led ms f a w) = (refl, ap (λ (j : ℕ). j ∷ ms) (sym f), a, w)
+      all : {k : ℕ} {ms ks : List ℕ} → AscendingLed size n k [] ms ks → Good (k ∷ ms) (record { path = p; kids = ks })
+      all (ascending-led ms f a w) = (refl, ap (λ (j : ℕ). j ∷ ms) (sym f), a, w)
 
-      split : {k : ℕ} {ms : List ℕ} → Led (moreKids size k n []) (λ ks. done (record { path = p; kids = ks })) e ms → Good (k ∷ ms) e
+      split : {k : ℕ} {ms : List ℕ} → Led (moreAscending 19 size k n []) (λ ks. done (record { path = p; kids = ks })) e ms → Good (k ∷ ms) e
       split {k = k} (led {ns = front} l₁ l₂) =
           let end = leads-done l₂ in
-          rw (end .0, append-nil front) (subst (Good (k ∷ front)) (end .1) (all (more-kids-only size k n [] l₁)))
+          rw (end .0, append-nil front) (subst (Good (k ∷ front)) (end .1) (all (more-ascending-only 19 size (omega arith) k n [] l₁)))
 
   one-part-only : (es : List Entry) {ns : List ℕ} {e : Entry} → Leads (onePart parent count size es) ns (done e)
       → PartGood es e × (ns ≡ e .path ∷ length (e .kids) ∷ e .kids)
@@ -113,11 +69,11 @@ module _ (parent : ℕ → ℕ) (count size : ℕ) where
         take {n = e .path} (omega arith) (g .passes)
         (take {n = length (e .kids)} (omega arith) refl
         (subst
-        (λ (ns : List ℕ). Leads (andThen (moreKids size (length (e .kids)) (length es) [])
+        (λ (ns : List ℕ). Leads (andThen (moreAscending 19 size (length (e .kids)) (length es) [])
         (λ ks. done (record { path = e .path; kids = ks }))) ns (done e))
         (append-nil (e .kids))
         (leads-then (λ ks. done (record { path = e .path; kids = ks }))
-        (more-kids-if size (length es) [] (e .kids) few (g .kids) (g .within)) here)))
+        (more-ascending-if 19 size (omega arith) (length es) [] (e .kids) few (g .kids) (g .within)) here)))
 
   -- numbers that lead through k parts, after the parts es
   data PartsLed (es : List Entry) (k : ℕ) : List ℕ → List Entry → Type 0 where

@@ -16,7 +16,7 @@ use Rattle.files.specs.declared.number.Number.the-variants.{Is, Refused}
 use Rattle.files.specs.Number.{numberIn}
 use Rattle.files.specs.Sets.{withPath}
 use Rattle.files.specs.Format.{Format, done, want, andThen, Outcome, run, got, refused}
-use Rattle.files.specs.RuleFile.{between, any}
+use Rattle.files.specs.RuleFile.{between, any, moreAscending}
 use Rattle.files.specs.Reading.{tested}
 use Rattle.files.proofs.Formats.{onward, run-then, run-bad, run-on}
 use Rattle.files.proofs.Numbers.{place-fits}
@@ -24,7 +24,7 @@ use Rattle.files.proofs.ReaderRules.{run-refused, run-taken, tested-taken, test
 use Rattle.files.proofs.SetBits.{bit-of-zero, with-new, with-past, with-old, has-with}
 use Rattle.documents.specs.declared.document.Section.{Section}
 use Rattle.documents.specs.declared.document.OnePart.{OnePart}
-use Rattle.documents.specs.PartList.{Entry, listed, namedTest, pathTest, moreKids, kidsOn, partAt}
+use Rattle.documents.specs.PartList.{Entry, listed, namedTest, pathTest, kidsOn, partAt}
 use Rattle.documents.specs.Reading.{onKid, kidsFrom, kidsAt, Marked, KidsAnswer, partOf, PartAnswer}
 use Rattle.documents.specs.Reading.KidsAnswer.{read as kids-read, stopped as kids-stopped}
 use Rattle.documents.specs.Reading.PartAnswer.{read as part-read, stopped as part-stopped}
@@ -187,7 +187,7 @@ pub record KidsSoFar (s : List ℕ) (at size n p many : ℕ) (before after : Lis
   pub marked : Marked p ks before after
   pub long : length after ≡ 512
   pub small : last < 512
-  pub rest : run (moreKids size left last ks) next (drop next s) ≡ run (moreKids size many n []) at (drop at s)
+  pub rest : run (moreAscending 19 size left last ks) next (drop next s) ≡ run (moreAscending 19 size many n []) at (drop at s)
 
 pub kids-start : (s : List ℕ) (at size n p many : ℕ) (l : List ℕ) → length l ≡ 512 → n < 512 → KidsSoFar s at size n p many l l n at many
 kids-start s at size n p many l long h = record { ks = []; kids = refl; marked = mark-none p l; long = long; small = h; rest = refl }
@@ -202,18 +202,18 @@ kids-one s next left x width h e =
 
 module _ (s : List ℕ) (at size n p many : ℕ) (before after : List ℕ) (last next left : ℕ)
     (inv : KidsSoFar s at size n p many before after last next left) where
-  wanted : 0 < left → run (moreKids size left last (inv .ks)) next (drop next s)
-      ≡ run (want (between (last + 1) size 19) (λ x. moreKids size (left - 1) x (inv .ks ++ (x ∷ [])))) next (drop next s)
-  unfolding moreKids
-  wanted h = let e : left ≡ suc (left - 1) = omega arith in ap (λ (k : ℕ). run (moreKids size k last (inv .ks)) next (drop next s)) e
+  wanted : 0 < left → run (moreAscending 19 size left last (inv .ks)) next (drop next s)
+      ≡ run (want (between (last + 1) size 19) (λ x. moreAscending 19 size (left - 1) x (inv .ks ++ (x ∷ [])))) next (drop next s)
+  unfolding moreAscending
+  wanted h = let e : left ≡ suc (left - 1) = omega arith in ap (λ (k : ℕ). run (moreAscending 19 size k last (inv .ks)) next (drop next s)) e
 
   module _ (r : Number) (e : r ≡ tested (between (last + 1) size 19) (numberIn (drop next s))) (h : 0 < left) where
     pub kids-bad : {k : ℕ} → r ≡ Refused k
-        → KidsAnswer s at many p before after (run (moreKids size many n []) at (drop at s)) (Section.Refused k next)
+        → KidsAnswer s at many p before after (run (moreAscending 19 size many n []) at (drop at s)) (Section.Refused k next)
     kids-bad {k} f =
-        let o : run (moreKids size many n []) at (drop at s) ≡ refused k next =
+        let o : run (moreAscending 19 size many n []) at (drop at s) ≡ refused k next =
         sym (inv .rest) ∙ wanted h
-        ∙ run-refused (between (last + 1) size 19) (λ x. moreKids size (left - 1) x (inv .ks ++ (x ∷ []))) s next r e f in
+        ∙ run-refused (between (last + 1) size 19) (λ x. moreAscending 19 size (left - 1) x (inv .ks ++ (x ∷ []))) s next r e f in
         rw o kids-stopped
 
     pub kids-more : {x width : ℕ} (i : ℕ) (l : List ℕ) → r ≡ Is x width → size ≤ 512 → i ≡ x
@@ -233,15 +233,15 @@ module _ (s : List ℕ) (at size n p many : ℕ) (before after : List ℕ) (last
           small = omega arith;
           rest = sym
               (sym (inv .rest) ∙ wanted h
-              ∙ run-taken (between (last + 1) size 19) (λ x. moreKids size (left - 1) x (inv .ks ++ (x ∷ []))) s next r e f);
+              ∙ run-taken (between (last + 1) size 19) (λ x. moreAscending 19 size (left - 1) x (inv .ks ++ (x ∷ []))) s next r e f);
         }
 
-  pub kids-end : left ≤ 0 → KidsAnswer s at many p before after (run (moreKids size many n []) at (drop at s)) (Section.Read next)
-  unfolding moreKids run kidsFrom
+  pub kids-end : left ≤ 0 → KidsAnswer s at many p before after (run (moreAscending 19 size many n []) at (drop at s)) (Section.Read next)
+  unfolding moreAscending run kidsFrom
   kids-end h =
       let e : left ≡ 0 = omega arith in
-      let o : run (moreKids size many n []) at (drop at s) ≡ got (inv .ks) next =
-      sym (inv .rest) ∙ ap (λ (k : ℕ). run (moreKids size k last (inv .ks)) next (drop next s)) e in
+      let o : run (moreAscending 19 size many n []) at (drop at s) ≡ got (inv .ks) next =
+      sym (inv .rest) ∙ ap (λ (k : ℕ). run (moreAscending 19 size k last (inv .ks)) next (drop next s)) e in
       let k : kidsFrom s at many ≡ inv .ks =
       sym (inv .kids) ∙ ap (λ (j : ℕ). inv .ks ++ kidsFrom s next j) e ∙ append-nil (inv .ks) in
       rw o (kids-read k (inv .marked))
@@ -262,7 +262,7 @@ pub ruleset part-of-laws = (part-refused, part-done)
 
 module _ (s : List ℕ) (at size n p : ℕ) (before after : List ℕ) (m : Number) (e : m ≡ numberIn (drop at s)) where
   on : ℕ → Format Entry
-  on k = andThen (moreKids size k n []) (λ ks. done (record { path = p; kids = ks }))
+  on k = andThen (moreAscending 19 size k n []) (λ ks. done (record { path = p; kids = ks }))
 
   pub count-bad : {k : ℕ} → m ≡ Refused k → PartAnswer s before after (run (kidsOn size n p) at (drop at s)) (OnePart.Refused k at)
   unfolding kidsOn on
@@ -271,14 +271,14 @@ module _ (s : List ℕ) (at size n p : ℕ) (before after : List ℕ) (m : Numbe
       rw o part-stopped
 
   pub count-is : {many width : ℕ} (end : Section) (q : OnePart) → m ≡ Is many width
-      → KidsAnswer s (at + width) many p before after (run (moreKids size many n []) (at + width) (drop (at + width) s)) end
+      → KidsAnswer s (at + width) many p before after (run (moreAscending 19 size many n []) (at + width) (drop (at + width) s)) end
       → q ≡ partOf p at end → PartAnswer s before after (run (kidsOn size n p) at (drop at s)) q
   unfolding kidsOn on onward partOf run kidsAt onKid
   count-is {many} {width} end q f a g =
       rw (
         g,
         run-on {A = Entry} any (λ k. on k) s at many width (sym e ∙ f) refl
-            ∙ run-then (moreKids size many n []) (λ ks. done (record { path = p; kids = ks })) s (at + width),
+            ∙ run-then (moreAscending 19 size many n []) (λ ks. done (record { path = p; kids = ks })) s (at + width),
       )
       (by a)
     where

@@ -9,10 +9,10 @@ use lib.ListN.{length}
 use lib.Dec.{ltb, leb, eqb}
 use Rattle.files.specs.declared.rules.Rules.{Rules}
 use Rattle.files.specs.Format.{Format, done, want, andThen, Leads, here, take, Stops, cut, long, own, left, RefusedAt}
-use Rattle.files.specs.RuleFile.{between}
+use Rattle.files.specs.RuleFile.{between, moreAscending}
 use Rattle.files.specs.Rules.{ValidTable}
 use Rattle.documents.specs.declared.check.Checked.{Checked}
-use Rattle.documents.specs.PartList.{Entry, namedTest, pathTest, moreKids, kidsOn, partAt, onePart, moreParts, documentFile}
+use Rattle.documents.specs.PartList.{Entry, namedTest, pathTest, kidsOn, partAt, onePart, moreParts, documentFile}
 use Rattle.documents.specs.Checking.{CheckDocument}
 use Rattle.documents.specs.Judgement.{Judged, table, long as too-long, file, obeys, broken, missing}
 
@@ -61,8 +61,8 @@ path-row parent count n set p = by (eqb n 0) (eqb p 0) (ltb p count) (eqb set 0)
     by false false true false false = inr (omega arith, omega arith)
     by false b false d e = inr (omega arith, omega arith)
 
-kids-rows : (size k last : ℕ) (ks : List ℕ) → Rows (moreKids size k last ks)
-unfolding moreKids
+kids-rows : (size k last : ℕ) (ks : List ℕ) → Rows (moreAscending 19 size k last ks)
+unfolding moreAscending
 kids-rows size zero last ks = rows-done
 kids-rows size (suc k) last ks =
     rows-want (between-row (last + 1) size 19 (omega arith) (omega arith)) (λ x. kids-rows size k x (ks ++ (x ∷ [])))

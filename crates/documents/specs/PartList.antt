@@ -6,7 +6,7 @@ use mathlib.Core.List.{List, [], _∷_, _++_, map, List·Memᴰ}
 use lib.ListN.{length, getD}
 use lib.Dec.{ltb, eqb}
 use Rattle.files.specs.Format.{Format, done, want, andThen}
-use Rattle.files.specs.RuleFile.{between, any}
+use Rattle.files.specs.RuleFile.{between, any, moreAscending}
 use Rattle.files.specs.Rules.{addAll}
 use Rattle.files.specs.Sets.{Ascending}
 use Rattle.documents.specs.Tree.{Forest}
@@ -37,14 +37,9 @@ namedTest parent set p = cond (eqb set 0) 17 (cond (eqb p 0) 18 (cond (eqb set (
 unfoldable pub pathTest : (parent : ℕ → ℕ) (count n set p : ℕ) → ℕ
 pathTest parent count n set p = cond (eqb n 0) (cond (eqb p 0) 0 16) (cond (ltb p count) (namedTest parent set p) 16)
 
--- so many children more, above `last` and below the part count
-unfoldable pub moreKids : ℕ → ℕ → ℕ → List ℕ → Format (List ℕ)
-moreKids size zero last ks = done ks
-moreKids size (suc k) last ks = want (between (last + 1) size 19) (λ x. moreKids size k x (ks ++ (x ∷ [])))
-
--- the children of part number n, which is on path p: their count first
+-- the children of part number n, which is on path p: their count first, then their numbers, above n and below the part count
 unfoldable pub kidsOn : ℕ → ℕ → ℕ → Format Entry
-kidsOn size n p = want any (λ k. andThen (moreKids size k n []) (λ ks. done (record { path = p; kids = ks })))
+kidsOn size n p = want any (λ k. andThen (moreAscending 19 size k n []) (λ ks. done (record { path = p; kids = ks })))
 
 -- part number n, of which the namers' paths are the set
 unfoldable pub partAt : (parent : ℕ → ℕ) (count size n set : ℕ) → Format Entry

@@ -3,11 +3,12 @@ ghost use Prim.Native.Nat.{_+_, _≤_, _<_};
 ghost use mathlib.Core.Path.{_≡_};
 ghost use mathlib.Core.List.{[]};
 ghost use lib.ListN.{length, drop, getD, set};
+ghost use Rattle.files.specs.RuleFile.{moreAscending};
 ghost use Rattle.files.specs.Sets.{withPath};
 ghost use Rattle.files.specs.Number.{numberIn};
 ghost use Rattle.files.specs.Format.{run, runAll};
 ghost use Rattle.files.specs.Reading.{tested};
-ghost use Rattle.documents.specs.PartList.{namedTest, pathTest, moreKids, kidsOn, partAt, moreParts, documentFile};
+ghost use Rattle.documents.specs.PartList.{namedTest, pathTest, kidsOn, partAt, moreParts, documentFile};
 ghost use Rattle.documents.specs.Reading.{parentAt, KidsAnswer, PartAnswer, partOf, PartsAnswer, listedAnswer, DocumentAnswer};
 use crate::context::parent_of;
 use files::number::Number;
@@ -100,7 +101,7 @@ fn read_kids(
 ) -> Section
     requires { ⌜ (size ≤ 512) × (n < 512) × (length (now namers) ≡ 512) ⌝ }
     ensures { λ r. ⌜ KidsAnswer (now (s .entry)) at many p (now (namers .entry)) (now (namers .exit))
-        (run (moreKids size many n []) at (drop at (now (s .entry)))) r ⌝ }
+        (run (moreAscending 19 size many n []) at (drop at (now (s .entry)))) r ⌝ }
 {
     let mut last = n;
     let mut next = at;

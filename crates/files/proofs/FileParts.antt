@@ -9,7 +9,7 @@ use lib.ListN.{length, length-append}
 use lib.Seq.{append-snoc}
 use Rattle.files.specs.Format.{done, Leads, here, take}
 use Rattle.files.specs.Number.{limit}
-use Rattle.files.specs.RuleFile.{pathLabel, onePath, morePaths, moreRequired, ruleLeft, ruleRight, oneRule, moreRules, pathNumbers, ruleNumbers}
+use Rattle.files.specs.RuleFile.{pathLabel, onePath, morePaths, ruleLeft, ruleRight, oneRule, moreRules, pathNumbers, ruleNumbers, moreAscending}
 use Rattle.files.specs.Sets.{Ascending, none, next}
 use Rattle.files.specs.Table.{Path, Rule}
 use Rattle.files.specs.Writing.{pathPasses, pathsPass, rulePasses, rulesPass}
@@ -77,38 +77,40 @@ more-paths-if ps (p ∷ rest) few t =
 
 -- ---- required paths
 
--- every number of the list is below the path count
+-- every number of the list is below a count
 abbrev pub Within : ℕ → List ℕ → Type 0
 Within count xs = (x : ℕ) → List·Memᴰ x xs → x < count
 
-pub data RequiredLed (count last k : ℕ) (xs : List ℕ) : List ℕ → List ℕ → Type 0 where
-  required-led : (ns : List ℕ) → length ns ≡ k → Ascending (suc last) ns → Within count ns → RequiredLed count last k xs ns (xs ++ ns)
+-- numbers that lead through k ascending ones above `last`, after the numbers xs
+pub data AscendingLed (past last k : ℕ) (xs : List ℕ) : List ℕ → List ℕ → Type 0 where
+  ascending-led : (ns : List ℕ) → length ns ≡ k → Ascending (suc last) ns → Within past ns → AscendingLed past last k xs ns (xs ++ ns)
 
-pub more-required-only : (count k last : ℕ) (xs : List ℕ) {ns ys : List ℕ} → Leads (moreRequired count k last xs) ns (done ys)
-    → RequiredLed count last k xs ns ys
-unfolding moreRequired
-more-required-only count zero last xs here =
-    subst (RequiredLed count last 0 xs []) (append-nil xs) (required-led [] refl none (λ x m. absurd (List·Memᴰ·not-nil m)))
-more-required-only count (suc k) last xs (take {n = x} small ok l) = by (more-required-only count k x (xs ++ (x ∷ [])) l)
-  where
-    h : (1 + last ≤ x) × (x < count)
-    h = between-passes (1 + last) count 7 x (omega arith) .0 ok
+module _ (refusal past : ℕ) (some : 0 < refusal) where
+  pub more-ascending-only : (k last : ℕ) (xs : List ℕ) {ns ys : List ℕ} → Leads (moreAscending refusal past k last xs) ns (done ys)
+      → AscendingLed past last k xs ns ys
+  unfolding moreAscending
+  more-ascending-only zero last xs here =
+      subst (AscendingLed past last 0 xs []) (append-nil xs) (ascending-led [] refl none (λ x m. absurd (List·Memᴰ·not-nil m)))
+  more-ascending-only (suc k) last xs (take {n = x} small ok l) = by (more-ascending-only k x (xs ++ (x ∷ [])) l)
+    where
+      h : (last + 1 ≤ x) × (x < past)
+      h = between-passes (last + 1) past refusal x some .0 ok
 
-    by : {ns ys : List ℕ} → RequiredLed count x k (xs ++ (x ∷ [])) ns ys → RequiredLed count last (suc k) xs (x ∷ ns) ys
-    by (required-led ns e a w) =
-        subst (RequiredLed count last (suc k) xs (x ∷ ns)) (sym (append-snoc xs x ns))
-        (required-led (x ∷ ns) (ap suc e) (next (omega (arith, h .0)) a)
-        (λ y m. ⊎-elim (λ (q : y ≡ x). omega (arith, h .1)) (w y) (List·Memᴰ·cases-cons m)))
+      by : {ns ys : List ℕ} → AscendingLed past x k (xs ++ (x ∷ [])) ns ys → AscendingLed past last (suc k) xs (x ∷ ns) ys
+      by (ascending-led ns e a w) =
+          subst (AscendingLed past last (suc k) xs (x ∷ ns)) (sym (append-snoc xs x ns))
+          (ascending-led (x ∷ ns) (ap suc e) (next (omega (arith, h .0)) a)
+          (λ y m. ⊎-elim (λ (q : y ≡ x). omega (arith, h .1)) (w y) (List·Memᴰ·cases-cons m)))
 
-pub more-required-if : (count last : ℕ) (xs ns : List ℕ) → count ≤ 64 → Ascending (suc last) ns → Within count ns
-    → Leads (moreRequired count (length ns) last xs) ns (done (xs ++ ns))
-unfolding moreRequired
-more-required-if count last xs ns few none w = rw (append-nil xs) here
-more-required-if count last xs ns few (next {x = x} {rest = rest} l a) w =
-    let h : x < count = w x (List·Memᴰ·head refl) in
-    rw (← append-snoc xs x rest)
-    (take {n = x} (omega arith) (between-passes (1 + last) count 7 x (omega arith) .1 (omega arith, h))
-    (more-required-if count x (xs ++ (x ∷ [])) rest few a (λ y m. w y (List·Memᴰ·tail m))))
+  pub more-ascending-if : (last : ℕ) (xs ns : List ℕ) → past ≤ 512 → Ascending (suc last) ns → Within past ns
+      → Leads (moreAscending refusal past (length ns) last xs) ns (done (xs ++ ns))
+  unfolding moreAscending
+  more-ascending-if last xs ns few none w = rw (append-nil xs) here
+  more-ascending-if last xs ns few (next {x = x} {rest = rest} l a) w =
+      let h : x < past = w x (List·Memᴰ·head refl) in
+      rw (← append-snoc xs x rest)
+      (take {n = x} (omega arith) (between-passes (last + 1) past refusal x some .1 (omega arith, h))
+      (more-ascending-if x (xs ++ (x ∷ [])) rest few a (λ y m. w y (List·Memᴰ·tail m))))
 
 -- ascending numbers below the path count are few
 pub ascending-few : {low : ℕ} {ns : List ℕ} (count : ℕ) → Ascending low ns → Within count ns → low ≤ count → low + length ns ≤ count

@@ -10,23 +10,7 @@ use Rattle.files.specs.declared.number.Number.{Number}
 use Rattle.files.specs.declared.number.Number.the-variants.{Is, Refused}
 use Rattle.files.specs.Number.{numberIn, secondIn}
 use Rattle.files.specs.Format.{Format, done, want, andThen, Outcome, got, refused, run, atEnd, runAll}
-use Rattle.files.specs.RuleFile.{
-  onePath,
-  pathLabel,
-  morePaths,
-  moreRequired,
-  oneRule,
-  ruleLeft,
-  ruleRight,
-  moreRules,
-  rulesToEnd,
-  afterRequired,
-  requiredOn,
-  afterPaths,
-  afterRoot,
-  afterCount,
-  ruleFile,
-}
+use Rattle.files.specs.RuleFile.{onePath, pathLabel, morePaths, oneRule, ruleLeft, ruleRight, moreRules, rulesToEnd, afterRequired, requiredOn, afterPaths, afterRoot, afterCount, ruleFile, moreAscending}
 use Rattle.files.specs.Reading.{readingOf, readAnswer}
 use Rattle.files.specs.Table.{Path, Rule}
 use Rattle.files.proofs.Formats.{run-bad, run-own, run-next}
@@ -153,12 +137,12 @@ paths-spend many (suc k) ps n e =
     (spends-then (path-spends ps (2 * k + n)) (λ p m h.
     spends-more (long-up many n) h (paths-spend many k (ps ++ (p ∷ [])) n (omega (arith, e, length-append ps (p ∷ []))))))
 
-required-spend : (count k last : ℕ) (xs : List ℕ) (n : ℕ) → Spends (Leaves n) (suc (count - suc last + n)) (moreRequired count k last xs)
-unfolding moreRequired
+required-spend : (count k last : ℕ) (xs : List ℕ) (n : ℕ) → Spends (Leaves n) (suc (count - suc last + n)) (moreAscending 7 count k last xs)
+unfolding moreAscending
 required-spend count zero last xs n = end xs (suc (count - suc last + n)) (omega arith)
 required-spend count (suc k) last xs n =
     more (count - suc last + n) (λ x t.
-    let b = between-passes (1 + last) count 7 x (omega arith) .0 t in
+    let b = between-passes (last + 1) count 7 x (omega arith) .0 t in
     spends-more (leaves-up n) (omega (arith, b)) (required-spend count k x (xs ++ (x ∷ [])) n))
 
 rule-spends : (count n : ℕ) → Spends (Leaves n) (suc (suc (suc n))) (oneRule count)

@@ -18,7 +18,7 @@ use Rattle.files.specs.declared.read.Section.{Section}
 use Rattle.files.specs.Number.{numberIn}
 use Rattle.files.specs.Format.{Format, done, want, andThen, Outcome, run, atEnd, runAll, got, refused}
 use Rattle.files.specs.Table.{Path, Rule, RuleSet, parents, labels}
-use Rattle.files.specs.RuleFile.{between, any, morePaths, moreRequired, oneRule, onePath, moreRules, rulesToEnd, afterRequired, requiredOn, afterPaths, afterRoot, afterCount, ruleFile}
+use Rattle.files.specs.RuleFile.{between, any, morePaths, oneRule, onePath, moreRules, rulesToEnd, afterRequired, requiredOn, afterPaths, afterRoot, afterCount, ruleFile, moreAscending}
 use Rattle.files.specs.Rules.{padded, addAll, tableOf, noRules}
 use Rattle.files.specs.Reading.{tested, pathsAnswer, requiredAnswer, ruleListAnswer, PathsIn, readingOf, readAnswer}
 use Rattle.files.proofs.Formats.{onward, run-then, run-bad, run-on, list-many}
@@ -172,11 +172,11 @@ module _ (s : List ℕ) (at : ℕ) (r : Reading) where
 
   -- required paths
   module _ (count : ℕ) (parent label : List ℕ) (root : ℕ) (ps : List Path) (paths : PathsIn count parent label root ps) (many : ℕ) (m : Required)
-      (e : m ≡ requiredAnswer (run (moreRequired count many 0 []) at (drop at s))) where
-    on : r ≡ readingOf (atEnd (length s) (run (andThen (moreRequired count many 0 []) (λ req. afterRequired root ps req)) at (drop at s)))
+      (e : m ≡ requiredAnswer (run (moreAscending 7 count many 0 []) at (drop at s))) where
+    on : r ≡ readingOf (atEnd (length s) (run (andThen (moreAscending 7 count many 0 []) (λ req. afterRequired root ps req)) at (drop at s)))
         → r ≡ readingOf (atEnd (length s) (run (requiredOn root ps many) at (drop at s)))
     unfolding requiredOn
-    on h = h ∙ ap (λ (n : ℕ). readingOf (atEnd (length s) (run (andThen (moreRequired n many 0 []) (λ req. afterRequired root ps req)) at (drop at s)))) (sym (paths .many))
+    on h = h ∙ ap (λ (n : ℕ). readingOf (atEnd (length s) (run (andThen (moreAscending 7 n many 0 []) (λ req. afterRequired root ps req)) at (drop at s)))) (sym (paths .many))
 
     required-out : (o : Outcome (List ℕ)) {k place : ℕ} → Required.Refused k place ≡ requiredAnswer o → o ≡ refused k place
     unfolding requiredAnswer
@@ -194,14 +194,14 @@ module _ (s : List ℕ) (at : ℕ) (r : Reading) where
     required-in (refused j place) f = absurd (let z : _≡_ {A = ℕ} 0 1 = cc in omega arith)
 
     pub on-refused : {k place : ℕ} → m ≡ Required.Refused k place → r ≡ readingOf (refused k place) → r ≡ readingOf (atEnd (length s) (run (requiredOn root ps many) at (drop at s)))
-    on-refused f h = on (then-refused (moreRequired count many 0 []) (λ req. afterRequired root ps req) s at r (required-out _ (sym f ∙ e)) h)
+    on-refused f h = on (then-refused (moreAscending 7 count many 0 []) (λ req. afterRequired root ps req) s at r (required-out _ (sym f ∙ e)) h)
 
     pub on-is : {w next : ℕ} → m ≡ Required.Is w next
         → ((root : ℕ) (ps : List Path) (req : List ℕ) → PathsIn count parent label root ps → w ≡ addAll 0 req → r ≡ readingOf (atEnd (length s) (run (afterRequired root ps req) next (drop next s))))
         → r ≡ readingOf (atEnd (length s) (run (requiredOn root ps many) at (drop at s)))
     on-is {w} {next} f h =
-        let g : (xs : List ℕ) × (run (moreRequired count many 0 []) at (drop at s) ≡ got xs next) × (w ≡ addAll 0 xs) = required-in _ (sym f ∙ e) in
-        on (then-got (moreRequired count many 0 []) (λ req. afterRequired root ps req) s at r (g .1) (h root ps (g .0) paths (g .2)))
+        let g : (xs : List ℕ) × (run (moreAscending 7 count many 0 []) at (drop at s) ≡ got xs next) × (w ≡ addAll 0 xs) = required-in _ (sym f ∙ e) in
+        on (then-got (moreAscending 7 count many 0 []) (λ req. afterRequired root ps req) s at r (g .1) (h root ps (g .0) paths (g .2)))
 
   -- a number with no test of its own
   module _ (next : ℕ → Format RuleSet) (m : Number) (e : m ≡ numberIn (drop at s)) where

@@ -17,7 +17,7 @@ use Rattle.files.specs.Number.{numberIn}
 use Rattle.files.specs.Sets.{withPath}
 use Rattle.files.specs.Format.{Format, done, want, Outcome, run, got, refused}
 use Rattle.files.specs.Table.{Rule}
-use Rattle.files.specs.RuleFile.{between, moreRequired, ruleRight, ruleLeft, oneRule, moreRules}
+use Rattle.files.specs.RuleFile.{between, ruleRight, ruleLeft, oneRule, moreRules, moreAscending}
 use Rattle.files.specs.Rules.{padded, addAll}
 use Rattle.files.specs.Reading.{passed, tested, requiredAnswer, ruleAnswer, ruleListAnswer}
 use Rattle.files.proofs.Formats.{onward, run-then, run-bad, run-own, run-on}
@@ -137,28 +137,26 @@ pub record RequiredSoFar (s : List ℕ) (at count many set last next left : ℕ)
   pub xs : List ℕ
   pub in-set : set ≡ addAll 0 xs
   pub small : last ≤ 64
-  pub rest : run (moreRequired count left last xs) next (drop next s) ≡ run (moreRequired count many 0 []) at (drop at s)
+  pub rest : run (moreAscending 7 count left last xs) next (drop next s) ≡ run (moreAscending 7 count many 0 []) at (drop at s)
 
 pub required-start : (s : List ℕ) (at count many : ℕ) → RequiredSoFar s at count many 0 0 at many
 unfolding addAll
 required-start s at count many = record { xs = []; in-set = refl; small = omega arith; rest = refl }
 
 module _ (s : List ℕ) (at count many set last next left : ℕ) (inv : RequiredSoFar s at count many set last next left) where
-  wanted : (r : Number) → 0 < left → run (moreRequired count left last (inv .xs)) next (drop next s)
-      ≡ run (want (between (last + 1) count 7) (λ x. moreRequired count (left - 1) x (inv .xs ++ (x ∷ [])))) next (drop next s)
-  unfolding moreRequired
+  wanted : (r : Number) → 0 < left → run (moreAscending 7 count left last (inv .xs)) next (drop next s)
+      ≡ run (want (between (last + 1) count 7) (λ x. moreAscending 7 count (left - 1) x (inv .xs ++ (x ∷ [])))) next (drop next s)
+  unfolding moreAscending
   wanted r h =
       let e : left ≡ suc (left - 1) = omega arith in
-      let f : 1 + last ≡ last + 1 = omega arith in
-      ap (λ (k : ℕ). run (moreRequired count k last (inv .xs)) next (drop next s)) e
-      ∙ ap (λ (b : ℕ). run (want (between b count 7) (λ x. moreRequired count (left - 1) x (inv .xs ++ (x ∷ [])))) next (drop next s)) f
+      ap (λ (k : ℕ). run (moreAscending 7 count k last (inv .xs)) next (drop next s)) e
 
   module _ (r : Number) (e : r ≡ tested (between (last + 1) count 7) (numberIn (drop next s))) (h : 0 < left) where
-    pub required-bad : {k : ℕ} → r ≡ Refused k → Required.Refused k next ≡ requiredAnswer (run (moreRequired count many 0 []) at (drop at s))
+    pub required-bad : {k : ℕ} → r ≡ Refused k → Required.Refused k next ≡ requiredAnswer (run (moreAscending 7 count many 0 []) at (drop at s))
     unfolding requiredAnswer
     required-bad f =
         ap requiredAnswer
-        (sym (sym (inv .rest) ∙ wanted r h ∙ run-refused (between (last + 1) count 7) (λ x. moreRequired count (left - 1) x (inv .xs ++ (x ∷ []))) s next r e f))
+        (sym (sym (inv .rest) ∙ wanted r h ∙ run-refused (between (last + 1) count 7) (λ x. moreAscending 7 count (left - 1) x (inv .xs ++ (x ∷ []))) s next r e f))
 
     pub required-more : {n size : ℕ} (x w : ℕ) → count ≤ 64 → r ≡ Is n size → x ≡ n → w ≡ withPath set x → RequiredSoFar s at count many w n (next + size) (left - 1)
     required-more {n} {size} x w small f g i =
@@ -167,15 +165,15 @@ module _ (s : List ℕ) (at count many set last next left : ℕ) (inv : Required
           xs = inv .xs ++ (n ∷ []);
           in-set = i ∙ ap₂ withPath (inv .in-set) g ∙ sym (add-snoc 0 (inv .xs) n);
           small = omega arith;
-          rest = sym (sym (inv .rest) ∙ wanted r h ∙ run-taken (between (last + 1) count 7) (λ x. moreRequired count (left - 1) x (inv .xs ++ (x ∷ []))) s next r e f);
+          rest = sym (sym (inv .rest) ∙ wanted r h ∙ run-taken (between (last + 1) count 7) (λ x. moreAscending 7 count (left - 1) x (inv .xs ++ (x ∷ []))) s next r e f);
         }
 
-  pub required-end : left ≤ 0 → Required.Is set next ≡ requiredAnswer (run (moreRequired count many 0 []) at (drop at s))
-  unfolding requiredAnswer moreRequired run
+  pub required-end : left ≤ 0 → Required.Is set next ≡ requiredAnswer (run (moreAscending 7 count many 0 []) at (drop at s))
+  unfolding requiredAnswer moreAscending run
   required-end h =
       let e : left ≡ 0 = omega arith in
       ap (λ (w : ℕ). Required.Is w next) (inv .in-set)
-      ∙ ap requiredAnswer (sym (sym (inv .rest) ∙ ap (λ (k : ℕ). run (moreRequired count k last (inv .xs)) next (drop next s)) e))
+      ∙ ap requiredAnswer (sym (sym (inv .rest) ∙ ap (λ (k : ℕ). run (moreAscending 7 count k last (inv .xs)) next (drop next s)) e))
 
 pub ruleset required-laws = (required-start, required-bad, required-more, required-end, tested-fits)
 

@@ -52,9 +52,9 @@ row-3 n =
     (λ h l. ⊎-elim (λ (e : n ≡ 0). omega arith) (λ (m : 64 < n). omega arith))
 
 -- 7: required number is 0, not in the table, or not above the previous, which is 0 before the first
-pub row-7 : (last count x : ℕ) → Row 7 (between (1 + last) count 7 x) ((x ≤ last) ⊎ (count ≤ x))
+pub row-7 : (last count x : ℕ) → Row 7 (between (last + 1) count 7 x) ((x ≤ last) ⊎ (count ≤ x))
 row-7 last count x =
-    row-between (1 + last) count 7 x ((x ≤ last) ⊎ (count ≤ x)) (omega arith) (λ h. inl (omega arith)) (λ h. inr h)
+    row-between (last + 1) count 7 x ((x ≤ last) ⊎ (count ≤ x)) (omega arith) (λ h. inl (omega arith)) (λ h. inr h)
     (λ h l. ⊎-elim (λ (e : x ≤ last). omega arith) (λ (m : count ≤ x). omega arith))
 
 -- 8: rule count above 256

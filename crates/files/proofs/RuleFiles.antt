@@ -8,11 +8,11 @@ use native.Mathlib.Omega.{arith}
 use lib.ListN.{length}
 use Rattle.files.specs.Format.{done, got, refused, runAll, Leads, here, take, RefusedAt}
 use Rattle.files.specs.Number.{limit, Bytes, bytesOfAll}
-use Rattle.files.specs.RuleFile.{rulesToEnd, requiredOn, moreRules, morePaths, moreRequired, afterRequired, afterPaths, afterRoot, afterCount, ruleFile, pathNumbers, ruleNumbers, numbersOf, fileOf}
+use Rattle.files.specs.RuleFile.{rulesToEnd, requiredOn, moreRules, morePaths, afterRequired, afterPaths, afterRoot, afterCount, ruleFile, pathNumbers, ruleNumbers, numbersOf, fileOf, moreAscending}
 use Rattle.files.specs.Sets.{Ascending}
 use Rattle.files.specs.Table.{Path, Rule, RuleSet, Valid}
 use Rattle.files.specs.Writing.{rulesPass}
-use Rattle.files.proofs.FileParts.{PathsLed, paths-led, more-paths-only, more-paths-if, Within, RequiredLed, required-led, more-required-only, more-required-if, ascending-few, RulesLed, rules-led, more-rules-only, more-rules-if}
+use Rattle.files.proofs.FileParts.{PathsLed, paths-led, more-paths-only, more-paths-if, Within, AscendingLed, ascending-led, more-ascending-only, more-ascending-if, ascending-few, RulesLed, rules-led, more-rules-only, more-rules-if}
 use Rattle.files.proofs.Formats.{accepted-if, accepted-only, refused-if, refused-only}
 use Rattle.files.proofs.Leading.{leads-want, leads-done, leads-then, Led, led, leads-split}
 use Rattle.files.proofs.Rows.{between-passes}
@@ -60,18 +60,18 @@ after-paths-only : (root : ℕ) (ps : List Path) {ns : List ℕ} {r : RuleSet} �
 unfolding afterPaths requiredOn
 after-paths-only root ps {r = r} l =
     let count = leads-want _ _ l in
-    rw (count .all) (split (leads-split (moreRequired (1 + length ps) (count .number) 0 []) _ (count .leads)))
+    rw (count .all) (split (leads-split (moreAscending 7 (1 + length ps) (count .number) 0 []) _ (count .leads)))
   where
-    all : {k : ℕ} {front back : List ℕ} {req : List ℕ} {q : RuleSet} → RequiredLed (1 + length ps) 0 k [] front req
+    all : {k : ℕ} {front back : List ℕ} {req : List ℕ} {q : RuleSet} → AscendingLed (1 + length ps) 0 k [] front req
         → AfterRequired root ps req back q
         → AfterPaths root ps (k ∷ (front ++ back)) q
-    all (required-led req e a w) (rules-after rs few t) =
+    all (ascending-led req e a w) (rules-after rs few t) =
         subst (λ (n : ℕ). AfterPaths root ps (n ∷ (req ++ (length rs ∷ ruleNumbers rs))) (made root ps req rs)) e
         (required-after req rs a w few t)
 
-    split : {k : ℕ} {ns : List ℕ} → Led (moreRequired (1 + length ps) k 0 []) (λ req. afterRequired root ps req) r ns
+    split : {k : ℕ} {ns : List ℕ} → Led (moreAscending 7 (1 + length ps) k 0 []) (λ req. afterRequired root ps req) r ns
         → AfterPaths root ps (k ∷ ns) r
-    split {k = k} (led {a = req} l₁ l₂) = all (more-required-only (1 + length ps) k 0 [] l₁) (after-required-only root ps req l₂)
+    split {k = k} (led {a = req} l₁ l₂) = all (more-ascending-only 7 (1 + length ps) (omega arith) k 0 [] l₁) (after-required-only root ps req l₂)
 
 file-only : {ns : List ℕ} {r : RuleSet} → Leads ruleFile ns (done r) → Passing r × (ns ≡ numbersOf r)
 unfolding ruleFile afterCount afterRoot numbersOf
@@ -117,7 +117,7 @@ module _ (r : RuleSet) (t : Passing r) where
       let few = ascending-few (1 + length (r .paths)) (t .required) (t .present) (omega arith) in
       take {n = length (r .required)} (omega (arith, t .count)) refl
       (leads-then (λ req. afterRequired (r .root) (r .paths) req)
-      (more-required-if (1 + length (r .paths)) 0 [] (r .required) (t .count) (t .required) (t .present)) after-required-if)
+      (more-ascending-if 7 (1 + length (r .paths)) (omega arith) 0 [] (r .required) (omega (arith, t .count)) (t .required) (t .present)) after-required-if)
 
   file-if : Leads ruleFile (numbersOf r) (done r)
   unfolding ruleFile afterCount afterRoot numbersOf

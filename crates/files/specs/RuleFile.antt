@@ -55,10 +55,11 @@ unfoldable pub morePaths : ℕ → List Path → Format (List Path)
 morePaths zero ps = done ps
 morePaths (suc k) ps = andThen (onePath ps) (λ p. morePaths k (ps ++ (p ∷ [])))
 
--- so many required numbers more, above `last` and below the path count
-unfoldable pub moreRequired : ℕ → ℕ → ℕ → List ℕ → Format (List ℕ)
-moreRequired count zero last xs = done xs
-moreRequired count (suc k) last xs = want (between (1 + last) count 7) (λ x. moreRequired count k x (xs ++ (x ∷ [])))
+-- so many numbers more, each above the one before it, the first above `last`, and below `past`; else the refusal
+unfoldable pub moreAscending : (refusal past : ℕ) → ℕ → ℕ → List ℕ → Format (List ℕ)
+moreAscending refusal past zero last xs = done xs
+moreAscending refusal past (suc k) last xs =
+    want (between (last + 1) past refusal) (λ x. moreAscending refusal past k x (xs ++ (x ∷ [])))
 
 -- the right path of a rule in a table of `count` paths
 unfoldable pub ruleRight : ℕ → ℕ → ℕ → Format Rule
@@ -86,9 +87,9 @@ rulesToEnd root ps req k =
 unfoldable pub afterRequired : ℕ → List Path → List ℕ → Format RuleSet
 afterRequired root ps req = want (between 0 257 8) (λ k. rulesToEnd root ps req k)
 
--- so many required numbers, and on
+-- so many required numbers, above 0 and below the path count, and on
 unfoldable pub requiredOn : ℕ → List Path → ℕ → Format RuleSet
-requiredOn root ps k = andThen (moreRequired (1 + length ps) k 0 []) (λ req. afterRequired root ps req)
+requiredOn root ps k = andThen (moreAscending 7 (1 + length ps) k 0 []) (λ req. afterRequired root ps req)
 
 -- required count and required numbers, and on
 unfoldable pub afterPaths : ℕ → List Path → Format RuleSet

@@ -114,7 +114,7 @@ pub record WriteRules (t : Rules) (out : List ℕ) (r : Written) (after : List �
   pub invalid : (r ≡ Refused 12 0) ↔ (ValidTable t → ⊥)
   -- refusal 20 exactly if it is valid and its file is longer than the buffer
   pub short : (r ≡ Refused 20 0) ↔ (ValidTable t × (length out < length (fileOf (rulesOf t))))
-  -- a refusal is one of the two, at 0, and leaves every byte
+  -- a refusal stands at 0 and leaves every byte
   pub refused : (k at : ℕ) → r ≡ Refused k at → (at ≡ 0) × (after ≡ out)
   -- else the file fills the start, its length is returned, and later bytes are unchanged
   pub written : (n : ℕ) → r ≡ Length n → (n ≡ length (fileOf (rulesOf t))) × (after ≡ fileOf (rulesOf t) ++ drop n out)

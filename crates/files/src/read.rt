@@ -6,7 +6,7 @@ ghost use lib.ListN.{length, drop, getD};
 ghost use Rattle.files.specs.Number.{numberIn};
 ghost use Rattle.files.specs.Format.{run, atEnd, got, refused};
 ghost use Rattle.files.specs.Table.{Path, RuleSet};
-ghost use Rattle.files.specs.RuleFile.{between, sameChild, repeats, parentTest, pathLabel, onePath, morePaths, depths, moreRequired, ruleRight, ruleLeft, oneRule, moreRules, rulesToEnd, afterRequired, requiredOn, afterPaths, afterRoot, afterCount};
+ghost use Rattle.files.specs.RuleFile.{between, sameChild, repeats, parentTest, pathLabel, onePath, morePaths, depths, ruleRight, ruleLeft, oneRule, moreRules, rulesToEnd, afterRequired, requiredOn, afterPaths, afterRoot, afterCount, moreAscending};
 ghost use Rattle.files.specs.Rules.{pathsFrom, padded, addAll, tableOf};
 ghost use Rattle.files.specs.Reading.{passed, tested, pathAnswer, pathsAnswer, requiredAnswer, ruleAnswer, ruleListAnswer, PathsIn, readingOf, ReadRules};
 use crate::number::Number;
@@ -230,7 +230,7 @@ fn read_paths(s: &[u8], at: usize, count: usize, root: u32) -> Paths
 // So many required paths, ascending, each in a table of `count` paths.
 fn read_required(s: &[u8], at: usize, count: u32, many: u32) -> Required
     requires { ⌜ count ≤ 64 ⌝ }
-    ensures { λ r. ⌜ r ≡ requiredAnswer (run (moreRequired count many 0 []) at (drop at (now (s .entry)))) ⌝ }
+    ensures { λ r. ⌜ r ≡ requiredAnswer (run (moreAscending 7 count many 0 []) at (drop at (now (s .entry)))) ⌝ }
 {
     let mut set = 0u64;
     let mut last = 0u32;

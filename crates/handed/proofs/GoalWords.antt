@@ -37,7 +37,7 @@ use Rattle.theory.specs.Handed.{
   goalRows,
 }
 use Rattle.handed.specs.Writer.{wordFor, Tabled, startOf, chainOf, rootOf, goalsHere}
-use Rattle.theory.proofs.HandedLoops.{gather-end, gather-step}
+use Rattle.theory.proofs.HandedGather.{gather-end, gather-step}
 
 -- ---- reachable words of the table's paths
 

@@ -41,7 +41,7 @@ pub record Ready (parent depth : List ℕ) (count top : ℕ) : Type 0 where
   pub depths : DepthsIn parent count depth
   pub low : top < 64
 
--- and besides: the document's numbers are small, and so are its bytes
+-- and besides: the document's numbers are at most 449, and its bytes at most 65,536
 pub record Writable (parent depth table : List ℕ) (count goals top : ℕ) : Type 0 where
   pub ready : Ready parent depth count top
   pub small : (n : ℕ) → List·Memᴰ n (handedNumbers (parentOf parent) count (wordFor depth table count) (startOf goals top)) → n ≤ 449

@@ -15,8 +15,8 @@ pub mod HandedBack
 pub mod HandedDisjoint
 pub mod HandedDocuments
 pub mod HandedFill
+pub mod HandedGather
 pub mod HandedKids
-pub mod HandedLoops
 pub mod HandedNamed
 pub mod HandedOrder
 pub mod HandedParts

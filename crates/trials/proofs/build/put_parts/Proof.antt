@@ -1,9 +1,6 @@
+-- `trials::build::put_parts` meets its contract.
 use Rattle.trials.proofs.build.put_parts.Statement.{statement}
 use Rattle.trials.proofs.build.put_parts.Tie as tie
-use Rattle.trials.proofs.build.put_parts.Reads as reads
-use Rattle.trials.proofs.build.put_parts.Lts as lts
-use Rattle.trials.proofs.build.put.Reads as put-reads
-use Rattle.trials.proofs.build.put_children.Reads as put-children-reads
 use borrow.Author.Needs.{needs}
 use Prim.Native.Nat.{_-_}
 use mathlib.Core.Path.{_≡_}

@@ -1,8 +1,6 @@
+-- `trials::build::put_paths` meets its contract.
 use Rattle.trials.proofs.build.put_paths.Statement.{statement}
 use Rattle.trials.proofs.build.put_paths.Tie as tie
-use Rattle.trials.proofs.build.put_paths.Reads as reads
-use Rattle.trials.proofs.build.put_paths.Lts as lts
-use Rattle.trials.proofs.build.put.Reads as put-reads
 use borrow.Author.Needs.{needs}
 use Prim.Native.Nat.{_≤_, _-_}
 use mathlib.Core.Path.{_≡_}

@@ -1,8 +1,6 @@
+-- `trials::build::put_required` meets its contract.
 use Rattle.trials.proofs.build.put_required.Statement.{statement}
 use Rattle.trials.proofs.build.put_required.Tie as tie
-use Rattle.trials.proofs.build.put_required.Reads as reads
-use Rattle.trials.proofs.build.put_required.Lts as lts
-use Rattle.trials.proofs.build.put.Reads as put-reads
 use borrow.Author.Needs.{needs}
 use Prim.Native.Nat.{_-_}
 use mathlib.Core.Path.{_≡_}

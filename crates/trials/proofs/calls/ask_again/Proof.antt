@@ -1,12 +1,7 @@
+-- `trials::calls::ask_again` meets its contract.
 use borrow.Author.Needs.{needs}
 use Rattle.trials.proofs.calls.ask_again.Statement.{statement}
 use Rattle.trials.proofs.calls.ask_again.Tie as tie
-use Rattle.trials.proofs.calls.ask_again.Reads as reads
-use Rattle.trials.proofs.calls.ask_again.Lts as lts
-use Rattle.trials.proofs.calls.ask_exact.Reads as ask-exact-reads
-use Rattle.trials.proofs.calls.ask_short.Reads as ask-short-reads
-use Rattle.trials.proofs.marks.unmarked.Reads as unmarked-reads
-use Rattle.trials.proofs.score.note.Reads as note-reads
 use native.Mathlib.Omega.{arith}
 use lib.ListN.{length-take}
 

@@ -1,14 +1,7 @@
+-- `trials::calls::ask_exact` meets its contract.
 use borrow.Author.Needs.{needs}
 use Rattle.trials.proofs.calls.ask_exact.Statement.{statement}
 use Rattle.trials.proofs.calls.ask_exact.Tie as tie
-use Rattle.trials.proofs.calls.ask_exact.Reads as reads
-use Rattle.trials.proofs.calls.ask_exact.Lts as lts
-use Rattle.trials.proofs.calls.agreeing_room.Reads as agreeing-room-reads
-use Rattle.trials.proofs.calls.run.Reads as run-reads
-use Rattle.trials.proofs.calls.told.Reads as told-reads
-use Rattle.trials.proofs.calls.unmarked_room.Reads as unmarked-room-reads
-use Rattle.trials.proofs.marks.mark.Reads as mark-reads
-use Rattle.trials.proofs.score.note.Reads as note-reads
 use native.Mathlib.Omega.{arith}
 use lib.ListN.{length-take}
 

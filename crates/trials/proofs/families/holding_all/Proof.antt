@@ -1,9 +1,6 @@
+-- `trials::families::holding_all` meets its contract.
 use Rattle.trials.proofs.families.holding_all.Statement.{statement}
 use Rattle.trials.proofs.families.holding_all.Tie as tie
-use Rattle.trials.proofs.families.holding_all.Reads as reads
-use Rattle.trials.proofs.families.holding_all.Lts as lts
-use Rattle.trials.proofs.families.has.Reads as has-reads
-use Rattle.trials.proofs.families.holding.Reads as holding-reads
 use borrow.Author.Needs.{needs}
 use Prim.Native.Nat.{_-_}
 

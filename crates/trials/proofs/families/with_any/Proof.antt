@@ -1,9 +1,6 @@
+-- `trials::families::with_any` meets its contract.
 use Rattle.trials.proofs.families.with_any.Statement.{statement}
 use Rattle.trials.proofs.families.with_any.Tie as tie
-use Rattle.trials.proofs.families.with_any.Reads as reads
-use Rattle.trials.proofs.families.with_any.Lts as lts
-use Rattle.trials.proofs.families.has.Reads as has-reads
-use Rattle.trials.proofs.families.with_set.Reads as with-set-reads
 use borrow.Author.Needs.{needs}
 use Prim.Native.Nat.{_-_}
 

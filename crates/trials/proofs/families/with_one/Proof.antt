@@ -1,9 +1,6 @@
+-- `trials::families::with_one` meets its contract.
 use Rattle.trials.proofs.families.with_one.Statement.{statement}
 use Rattle.trials.proofs.families.with_one.Tie as tie
-use Rattle.trials.proofs.families.with_one.Reads as reads
-use Rattle.trials.proofs.families.with_one.Lts as lts
-use Rattle.trials.proofs.families.has.Reads as has-reads
-use Rattle.trials.proofs.families.with_set.Reads as with-set-reads
 use borrow.Author.Needs.{needs}
 use Prim.Native.Nat.{_-_}
 

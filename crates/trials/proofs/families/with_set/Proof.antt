@@ -1,9 +1,6 @@
+-- `trials::families::with_set` meets its contract.
 use Rattle.trials.proofs.families.with_set.Statement.{statement}
 use Rattle.trials.proofs.families.with_set.Tie as tie
-use Rattle.trials.proofs.families.with_set.Reads as reads
-use Rattle.trials.proofs.families.with_set.Lts as lts
-use Rattle.trials.proofs.families.has.Reads as has-reads
-use Rattle.trials.proofs.families.with_path.Reads as with-path-reads
 use borrow.Author.Needs.{needs}
 use Prim.Native.Nat.{_-_}
 

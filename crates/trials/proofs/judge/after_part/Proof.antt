@@ -1,9 +1,6 @@
+-- `trials::judge::after_part` meets its contract.
 use Rattle.trials.proofs.judge.after_part.Statement.{statement}
 use Rattle.trials.proofs.judge.after_part.Tie as tie
-use Rattle.trials.proofs.judge.after_part.Reads as reads
-use Rattle.trials.proofs.judge.after_part.Lts as lts
-use Rattle.trials.proofs.replay.after.Reads as after-reads
-use Rattle.trials.proofs.replay.number.Reads as number-reads
 use borrow.Author.Needs.{needs}
 use Prim.Native.Nat.{_-_}
 

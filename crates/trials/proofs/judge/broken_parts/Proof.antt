@@ -1,10 +1,6 @@
+-- `trials::judge::broken_parts` meets its contract.
 use Rattle.trials.proofs.judge.broken_parts.Statement.{statement}
 use Rattle.trials.proofs.judge.broken_parts.Tie as tie
-use Rattle.trials.proofs.judge.broken_parts.Reads as reads
-use Rattle.trials.proofs.judge.broken_parts.Lts as lts
-use Rattle.trials.proofs.judge.broken_part.Reads as broken-part-reads
-use Rattle.trials.proofs.judge.held_by_all.Reads as held-by-all-reads
-use Rattle.trials.proofs.judge.places.Reads as places-reads
 use borrow.Author.Needs.{needs}
 use Prim.Native.Nat.{_-_}
 

@@ -1,9 +1,6 @@
+-- `trials::judge::held_at` meets its contract.
 use Rattle.trials.proofs.judge.held_at.Statement.{statement}
 use Rattle.trials.proofs.judge.held_at.Tie as tie
-use Rattle.trials.proofs.judge.held_at.Reads as reads
-use Rattle.trials.proofs.judge.held_at.Lts as lts
-use Rattle.trials.proofs.replay.after.Reads as after-reads
-use Rattle.trials.proofs.replay.number.Reads as number-reads
 use borrow.Author.Needs.{needs}
 use Prim.Native.Nat.{_-_}
 

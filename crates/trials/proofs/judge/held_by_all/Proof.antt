@@ -1,8 +1,6 @@
+-- `trials::judge::held_by_all` meets its contract.
 use Rattle.trials.proofs.judge.held_by_all.Statement.{statement}
 use Rattle.trials.proofs.judge.held_by_all.Tie as tie
-use Rattle.trials.proofs.judge.held_by_all.Reads as reads
-use Rattle.trials.proofs.judge.held_by_all.Lts as lts
-use Rattle.trials.proofs.judge.held_by_numbered.Reads as held-by-numbered-reads
 use borrow.Author.Needs.{needs}
 use Prim.Native.Nat.{_-_}
 use mathlib.Core.Path.{_≡_}

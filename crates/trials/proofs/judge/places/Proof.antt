@@ -1,9 +1,6 @@
+-- `trials::judge::places` meets its contract.
 use Rattle.trials.proofs.judge.places.Statement.{statement}
 use Rattle.trials.proofs.judge.places.Tie as tie
-use Rattle.trials.proofs.judge.places.Reads as reads
-use Rattle.trials.proofs.judge.places.Lts as lts
-use Rattle.trials.proofs.judge.after_numbered.Reads as after-numbered-reads
-use Rattle.trials.proofs.replay.after.Reads as after-reads
 use borrow.Author.Needs.{needs}
 use Prim.Native.Nat.{_-_}
 use mathlib.Core.Path.{_≡_}

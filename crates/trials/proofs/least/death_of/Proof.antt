@@ -1,9 +1,6 @@
+-- `trials::least::death_of` meets its contract.
 use Rattle.trials.proofs.least.death_of.Statement.{statement}
 use Rattle.trials.proofs.least.death_of.Tie as tie
-use Rattle.trials.proofs.least.death_of.Reads as reads
-use Rattle.trials.proofs.least.death_of.Lts as lts
-use Rattle.files.proofs.number.wide.Reads as wide-reads
-use Rattle.trials.proofs.least.is_dead_by.Reads as is-dead-by-reads
 use borrow.Author.Needs.{needs}
 use Prim.Native.Nat.{_-_}
 

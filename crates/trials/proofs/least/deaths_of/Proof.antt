@@ -1,8 +1,6 @@
+-- `trials::least::deaths_of` meets its contract.
 use Rattle.trials.proofs.least.deaths_of.Statement.{statement}
 use Rattle.trials.proofs.least.deaths_of.Tie as tie
-use Rattle.trials.proofs.least.deaths_of.Reads as reads
-use Rattle.trials.proofs.least.deaths_of.Lts as lts
-use Rattle.trials.proofs.least.death_of.Reads as death-of-reads
 use borrow.Author.Needs.{needs}
 use Prim.Native.Nat.{_-_}
 use mathlib.Core.Path.{_≡_}

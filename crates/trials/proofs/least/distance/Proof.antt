@@ -1,8 +1,6 @@
+-- `trials::least::distance` meets its contract.
 use Rattle.trials.proofs.least.distance.Statement.{statement}
 use Rattle.trials.proofs.least.distance.Tie as tie
-use Rattle.trials.proofs.least.distance.Reads as reads
-use Rattle.trials.proofs.least.distance.Lts as lts
-use Rattle.trials.proofs.steps.in_word.Reads as in-word-reads
 use borrow.Author.Needs.{needs}
 use Prim.Native.Nat.{_-_}
 

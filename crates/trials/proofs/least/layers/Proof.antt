@@ -1,9 +1,6 @@
+-- `trials::least::layers` meets its contract.
 use Rattle.trials.proofs.least.layers.Statement.{statement}
 use Rattle.trials.proofs.least.layers.Tie as tie
-use Rattle.trials.proofs.least.layers.Reads as reads
-use Rattle.trials.proofs.least.layers.Lts as lts
-use Rattle.trials.proofs.least.alone.Reads as alone-reads
-use Rattle.trials.proofs.least.widened.Reads as widened-reads
 use borrow.Author.Needs.{needs}
 use Prim.Native.Nat.{_-_}
 use mathlib.Core.Path.{_≡_}

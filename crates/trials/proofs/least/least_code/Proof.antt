@@ -1,9 +1,6 @@
+-- `trials::least::least_code` meets its contract.
 use Rattle.trials.proofs.least.least_code.Statement.{statement}
 use Rattle.trials.proofs.least.least_code.Tie as tie
-use Rattle.trials.proofs.least.least_code.Reads as reads
-use Rattle.trials.proofs.least.least_code.Lts as lts
-use Rattle.trials.proofs.steps.in_word.Reads as in-word-reads
-use Rattle.trials.proofs.steps.step.Reads as step-reads
 use borrow.Author.Needs.{needs}
 use Prim.Native.Nat.{_-_}
 

@@ -1,8 +1,6 @@
+-- `trials::least::least_conflict` meets its contract.
 use Rattle.trials.proofs.least.least_conflict.Statement.{statement}
 use Rattle.trials.proofs.least.least_conflict.Tie as tie
-use Rattle.trials.proofs.least.least_conflict.Reads as reads
-use Rattle.trials.proofs.least.least_conflict.Lts as lts
-use Rattle.trials.proofs.least.conflicts.Reads as conflicts-reads
 use borrow.Author.Needs.{needs}
 use Prim.Native.Nat.{_-_}
 

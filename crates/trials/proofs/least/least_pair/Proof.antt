@@ -1,8 +1,6 @@
+-- `trials::least::least_pair` meets its contract.
 use Rattle.trials.proofs.least.least_pair.Statement.{statement}
 use Rattle.trials.proofs.least.least_pair.Tie as tie
-use Rattle.trials.proofs.least.least_pair.Reads as reads
-use Rattle.trials.proofs.least.least_pair.Lts as lts
-use Rattle.trials.proofs.least.excludes_by_side.Reads as excludes-by-side-reads
 use borrow.Author.Needs.{needs}
 use Prim.Native.Nat.{_-_}
 

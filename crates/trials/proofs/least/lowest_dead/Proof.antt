@@ -1,8 +1,6 @@
+-- `trials::least::lowest_dead` meets its contract.
 use Rattle.trials.proofs.least.lowest_dead.Statement.{statement}
 use Rattle.trials.proofs.least.lowest_dead.Tie as tie
-use Rattle.trials.proofs.least.lowest_dead.Reads as reads
-use Rattle.trials.proofs.least.lowest_dead.Lts as lts
-use Rattle.trials.proofs.least.is_dead_required.Reads as is-dead-required-reads
 use borrow.Author.Needs.{needs}
 use Prim.Native.Nat.{_-_}
 

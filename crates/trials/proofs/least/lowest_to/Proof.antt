@@ -1,8 +1,6 @@
+-- `trials::least::lowest_to` meets its contract.
 use Rattle.trials.proofs.least.lowest_to.Statement.{statement}
 use Rattle.trials.proofs.least.lowest_to.Tie as tie
-use Rattle.trials.proofs.least.lowest_to.Reads as reads
-use Rattle.trials.proofs.least.lowest_to.Lts as lts
-use Rattle.trials.proofs.least.required_reaches.Reads as required-reaches-reads
 use borrow.Author.Needs.{needs}
 use Prim.Native.Nat.{_-_}
 

@@ -1,8 +1,6 @@
+-- `trials::least::widened` meets its contract.
 use Rattle.trials.proofs.least.widened.Statement.{statement}
 use Rattle.trials.proofs.least.widened.Tie as tie
-use Rattle.trials.proofs.least.widened.Reads as reads
-use Rattle.trials.proofs.least.widened.Lts as lts
-use Rattle.trials.proofs.least.joined.Reads as joined-reads
 use borrow.Author.Needs.{needs}
 use Prim.Native.Nat.{_-_}
 

@@ -1,11 +1,7 @@
+-- `trials::limits::accept` meets its contract.
 use borrow.Author.Needs.{needs}
 use Rattle.trials.proofs.limits.accept.Statement.{statement}
 use Rattle.trials.proofs.limits.accept.Tie as tie
-use Rattle.trials.proofs.limits.accept.Reads as reads
-use Rattle.trials.proofs.limits.accept.Lts as lts
-use Rattle.trials.proofs.build.put_file.Reads as put-file-reads
-use Rattle.trials.proofs.limits.try_accepted.Reads as try-accepted-reads
-use Rattle.trials.proofs.score.note.Reads as note-reads
 use native.Mathlib.Omega.{arith}
 use lib.ListN.{length-take}
 

@@ -1,12 +1,7 @@
+-- `trials::limits::refuse` meets its contract.
 use borrow.Author.Needs.{needs}
 use Rattle.trials.proofs.limits.refuse.Statement.{statement}
 use Rattle.trials.proofs.limits.refuse.Tie as tie
-use Rattle.trials.proofs.limits.refuse.Reads as reads
-use Rattle.trials.proofs.limits.refuse.Lts as lts
-use Rattle.trials.proofs.build.put_file.Reads as put-file-reads
-use Rattle.trials.proofs.calls.refused.Reads as refused-reads
-use Rattle.trials.proofs.examples.reading_of.Reads as reading-of-reads
-use Rattle.trials.proofs.limits.note_told.Reads as note-told-reads
 use native.Mathlib.Omega.{arith}
 use lib.ListN.{length-take}
 

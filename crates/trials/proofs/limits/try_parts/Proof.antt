@@ -1,12 +1,7 @@
+-- `trials::limits::try_parts` meets its contract.
 use borrow.Author.Needs.{needs}
 use Rattle.trials.proofs.limits.try_parts.Statement.{statement}
 use Rattle.trials.proofs.limits.try_parts.Tie as tie
-use Rattle.trials.proofs.limits.try_parts.Reads as reads
-use Rattle.trials.proofs.limits.try_parts.Lts as lts
-use Rattle.files.proofs.read.read_rules.Reads as read-rules-reads
-use Rattle.trials.proofs.build.put_parts.Reads as put-parts-reads
-use Rattle.trials.proofs.limits.note_told.Reads as note-told-reads
-use Rattle.trials.proofs.refusals.checking_of.Reads as checking-of-reads
 use native.Mathlib.Omega.{arith}
 use lib.ListN.{length-take}
 

@@ -1,12 +1,7 @@
+-- `trials::limits::try_witness` meets its contract.
 use borrow.Author.Needs.{needs}
 use Rattle.trials.proofs.limits.try_witness.Statement.{statement}
 use Rattle.trials.proofs.limits.try_witness.Tie as tie
-use Rattle.trials.proofs.limits.try_witness.Reads as reads
-use Rattle.trials.proofs.limits.try_witness.Lts as lts
-use Rattle.io.proofs.large_buffer.Reads as large-buffer-reads
-use Rattle.trials.proofs.calls.run.Reads as run-reads
-use Rattle.trials.proofs.handed.judged.Reads as judged-reads
-use Rattle.trials.proofs.score.note.Reads as note-reads
 use native.Mathlib.Omega.{arith}
 use lib.ListN.{length-take}
 

@@ -1,7 +1,6 @@
+-- `trials::marks::agreeing` meets its contract.
 use Rattle.trials.proofs.marks.agreeing.Statement.{statement}
 use Rattle.trials.proofs.marks.agreeing.Tie as tie
-use Rattle.trials.proofs.marks.agreeing.Reads as reads
-use Rattle.trials.proofs.marks.agreeing.Lts as lts
 use borrow.Author.Needs.{needs}
 use Prim.Native.Nat.{_-_}
 use lib.ListN.{length}

@@ -1,7 +1,6 @@
+-- `trials::marks::mark` meets its contract.
 use Rattle.trials.proofs.marks.mark.Statement.{statement}
 use Rattle.trials.proofs.marks.mark.Tie as tie
-use Rattle.trials.proofs.marks.mark.Reads as reads
-use Rattle.trials.proofs.marks.mark.Lts as lts
 use borrow.Author.Needs.{needs}
 use Prim.Native.Nat.{_-_}
 use mathlib.Core.Path.{_≡_}

@@ -1,7 +1,6 @@
+-- `trials::marks::unmarked` meets its contract.
 use Rattle.trials.proofs.marks.unmarked.Statement.{statement}
 use Rattle.trials.proofs.marks.unmarked.Tie as tie
-use Rattle.trials.proofs.marks.unmarked.Reads as reads
-use Rattle.trials.proofs.marks.unmarked.Lts as lts
 use borrow.Author.Needs.{needs}
 use Prim.Native.Nat.{_-_}
 use lib.ListN.{length}

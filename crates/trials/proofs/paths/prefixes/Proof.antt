@@ -1,8 +1,6 @@
+-- `trials::paths::prefixes` meets its contract.
 use Rattle.trials.proofs.paths.prefixes.Statement.{statement}
 use Rattle.trials.proofs.paths.prefixes.Tie as tie
-use Rattle.trials.proofs.paths.prefixes.Reads as reads
-use Rattle.trials.proofs.paths.prefixes.Lts as lts
-use Rattle.trials.proofs.paths.parent_of.Reads as parent-of-reads
 use borrow.Author.Needs.{needs}
 use Prim.Native.Nat.{_-_}
 

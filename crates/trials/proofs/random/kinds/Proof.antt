@@ -1,8 +1,6 @@
+-- `trials::random::kinds` meets its contract.
 use Rattle.trials.proofs.random.kinds.Statement.{statement}
 use Rattle.trials.proofs.random.kinds.Tie as tie
-use Rattle.trials.proofs.random.kinds.Reads as reads
-use Rattle.trials.proofs.random.kinds.Lts as lts
-use Rattle.trials.proofs.random.draw_path.Reads as draw-path-reads
 use borrow.Author.Needs.{needs}
 use Prim.Native.Nat.{_-_}
 use mathlib.Core.Path.{_≡_}

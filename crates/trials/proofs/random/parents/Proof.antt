@@ -1,8 +1,6 @@
+-- `trials::random::parents` meets its contract.
 use Rattle.trials.proofs.random.parents.Statement.{statement}
 use Rattle.trials.proofs.random.parents.Tie as tie
-use Rattle.trials.proofs.random.parents.Reads as reads
-use Rattle.trials.proofs.random.parents.Lts as lts
-use Rattle.trials.proofs.random.draw_parent.Reads as draw-parent-reads
 use borrow.Author.Needs.{needs}
 use Prim.Native.Nat.{_-_}
 use mathlib.Core.Path.{_≡_}

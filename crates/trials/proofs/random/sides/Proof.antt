@@ -1,8 +1,6 @@
+-- `trials::random::sides` meets its contract.
 use Rattle.trials.proofs.random.sides.Statement.{statement}
 use Rattle.trials.proofs.random.sides.Tie as tie
-use Rattle.trials.proofs.random.sides.Reads as reads
-use Rattle.trials.proofs.random.sides.Lts as lts
-use Rattle.trials.proofs.random.draw_side.Reads as draw-side-reads
 use borrow.Author.Needs.{needs}
 use Prim.Native.Nat.{_-_}
 use mathlib.Core.Path.{_≡_}

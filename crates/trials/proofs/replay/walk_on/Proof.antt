@@ -1,10 +1,6 @@
+-- `trials::replay::walk_on` meets its contract.
 use Rattle.trials.proofs.replay.walk_on.Statement.{statement}
 use Rattle.trials.proofs.replay.walk_on.Tie as tie
-use Rattle.trials.proofs.replay.walk_on.Reads as reads
-use Rattle.trials.proofs.replay.walk_on.Lts as lts
-use Rattle.trials.proofs.replay.after.Reads as after-reads
-use Rattle.trials.proofs.replay.slot.Reads as slot-reads
-use Rattle.trials.proofs.replay.take_step.Reads as take-step-reads
 use borrow.Author.Needs.{needs}
 use Prim.Native.Nat.{_-_}
 

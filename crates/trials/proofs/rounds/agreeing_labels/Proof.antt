@@ -1,7 +1,6 @@
+-- `trials::rounds::agreeing_labels` meets its contract.
 use Rattle.trials.proofs.rounds.agreeing_labels.Statement.{statement}
 use Rattle.trials.proofs.rounds.agreeing_labels.Tie as tie
-use Rattle.trials.proofs.rounds.agreeing_labels.Reads as reads
-use Rattle.trials.proofs.rounds.agreeing_labels.Lts as lts
 use borrow.Author.Needs.{needs}
 use Prim.Native.Nat.{_-_}
 

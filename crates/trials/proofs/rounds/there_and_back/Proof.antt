@@ -1,14 +1,7 @@
+-- `trials::rounds::there_and_back` meets its contract.
 use borrow.Author.Needs.{needs}
 use Rattle.trials.proofs.rounds.there_and_back.Statement.{statement}
 use Rattle.trials.proofs.rounds.there_and_back.Tie as tie
-use Rattle.trials.proofs.rounds.there_and_back.Reads as reads
-use Rattle.trials.proofs.rounds.there_and_back.Lts as lts
-use Rattle.files.proofs.write.write_rules.Reads as write-rules-reads
-use Rattle.io.proofs.buffer.Reads as buffer-reads
-use Rattle.trials.proofs.calls.written.Reads as written-reads
-use Rattle.trials.proofs.rounds.read_and_write.Reads as read-and-write-reads
-use Rattle.trials.proofs.rounds.read_back.Reads as read-back-reads
-use Rattle.trials.proofs.score.note.Reads as note-reads
 use native.Mathlib.Omega.{arith}
 use lib.ListN.{length-take}
 

@@ -1,11 +1,6 @@
+-- `trials::search::broken_at` meets its contract.
 use Rattle.trials.proofs.search.broken_at.Statement.{statement}
 use Rattle.trials.proofs.search.broken_at.Tie as tie
-use Rattle.trials.proofs.search.broken_at.Reads as reads
-use Rattle.trials.proofs.search.broken_at.Lts as lts
-use Rattle.trials.proofs.families.breaking.Reads as breaking-reads
-use Rattle.trials.proofs.paths.common.Reads as common-reads
-use Rattle.trials.proofs.paths.prefixes.Reads as prefixes-reads
-use Rattle.trials.proofs.small.rule_of.Reads as rule-of-reads
 use borrow.Author.Needs.{needs}
 use Prim.Native.Nat.{_-_}
 

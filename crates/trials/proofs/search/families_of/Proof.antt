@@ -1,9 +1,6 @@
+-- `trials::search::families_of` meets its contract.
 use Rattle.trials.proofs.search.families_of.Statement.{statement}
 use Rattle.trials.proofs.search.families_of.Tie as tie
-use Rattle.trials.proofs.search.families_of.Reads as reads
-use Rattle.trials.proofs.search.families_of.Lts as lts
-use Rattle.trials.proofs.search.broken_at.Reads as broken-at-reads
-use Rattle.trials.proofs.search.free_at.Reads as free-at-reads
 use borrow.Author.Needs.{needs}
 use Prim.Native.Nat.{_-_}
 use mathlib.Core.Path.{_≡_}

@@ -1,10 +1,6 @@
+-- `trials::search::free_at` meets its contract.
 use Rattle.trials.proofs.search.free_at.Statement.{statement}
 use Rattle.trials.proofs.search.free_at.Tie as tie
-use Rattle.trials.proofs.search.free_at.Reads as reads
-use Rattle.trials.proofs.search.free_at.Lts as lts
-use Rattle.trials.proofs.families.with_any.Reads as with-any-reads
-use Rattle.trials.proofs.families.with_path.Reads as with-path-reads
-use Rattle.trials.proofs.search.is_child.Reads as is-child-reads
 use borrow.Author.Needs.{needs}
 use Prim.Native.Nat.{_-_}
 

@@ -1,9 +1,6 @@
+-- `trials::search::partial_at` meets its contract.
 use Rattle.trials.proofs.search.partial_at.Statement.{statement}
 use Rattle.trials.proofs.search.partial_at.Tie as tie
-use Rattle.trials.proofs.search.partial_at.Reads as reads
-use Rattle.trials.proofs.search.partial_at.Lts as lts
-use Rattle.trials.proofs.families.with_one.Reads as with-one-reads
-use Rattle.trials.proofs.search.is_child.Reads as is-child-reads
 use borrow.Author.Needs.{needs}
 use Prim.Native.Nat.{_-_}
 

@@ -1,10 +1,6 @@
+-- `trials::search::some_counter` meets its contract.
 use Rattle.trials.proofs.search.some_counter.Statement.{statement}
 use Rattle.trials.proofs.search.some_counter.Tie as tie
-use Rattle.trials.proofs.search.some_counter.Reads as reads
-use Rattle.trials.proofs.search.some_counter.Lts as lts
-use Rattle.trials.proofs.families.breaking.Reads as breaking-reads
-use Rattle.trials.proofs.paths.common.Reads as common-reads
-use Rattle.trials.proofs.search.countering_at.Reads as countering-at-reads
 use borrow.Author.Needs.{needs}
 use Prim.Native.Nat.{_-_}
 use mathlib.Core.Path.{_≡_}

@@ -1,8 +1,6 @@
+-- `trials::small::labels_of` meets its contract.
 use Rattle.trials.proofs.small.labels_of.Statement.{statement}
 use Rattle.trials.proofs.small.labels_of.Tie as tie
-use Rattle.trials.proofs.small.labels_of.Reads as reads
-use Rattle.trials.proofs.small.labels_of.Lts as lts
-use Rattle.trials.proofs.small.label_of.Reads as label-of-reads
 use borrow.Author.Needs.{needs}
 use Prim.Native.Nat.{_-_}
 use mathlib.Core.Path.{_≡_}

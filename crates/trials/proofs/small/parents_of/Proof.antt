@@ -1,8 +1,6 @@
+-- `trials::small::parents_of` meets its contract.
 use Rattle.trials.proofs.small.parents_of.Statement.{statement}
 use Rattle.trials.proofs.small.parents_of.Tie as tie
-use Rattle.trials.proofs.small.parents_of.Reads as reads
-use Rattle.trials.proofs.small.parents_of.Lts as lts
-use Rattle.trials.proofs.small.kept.Reads as kept-reads
 use borrow.Author.Needs.{needs}
 use Prim.Native.Nat.{_-_}
 use mathlib.Core.Path.{_≡_}

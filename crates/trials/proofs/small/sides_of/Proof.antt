@@ -1,8 +1,6 @@
+-- `trials::small::sides_of` meets its contract.
 use Rattle.trials.proofs.small.sides_of.Statement.{statement}
 use Rattle.trials.proofs.small.sides_of.Tie as tie
-use Rattle.trials.proofs.small.sides_of.Reads as reads
-use Rattle.trials.proofs.small.sides_of.Lts as lts
-use Rattle.trials.proofs.small.kept.Reads as kept-reads
 use borrow.Author.Needs.{needs}
 use Prim.Native.Nat.{_-_}
 use mathlib.Core.Path.{_≡_}

@@ -1,7 +1,6 @@
+-- `trials::spoilt::chain` meets its contract.
 use Rattle.trials.proofs.spoilt.chain.Statement.{statement}
 use Rattle.trials.proofs.spoilt.chain.Tie as tie
-use Rattle.trials.proofs.spoilt.chain.Reads as reads
-use Rattle.trials.proofs.spoilt.chain.Lts as lts
 use borrow.Author.Needs.{needs}
 use Prim.Native.Nat.{_-_}
 use mathlib.Core.Path.{_≡_}

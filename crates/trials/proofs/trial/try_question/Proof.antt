@@ -1,13 +1,7 @@
+-- `trials::trial::try_question` meets its contract.
 use borrow.Author.Needs.{needs}
 use Rattle.trials.proofs.trial.try_question.Statement.{statement}
 use Rattle.trials.proofs.trial.try_question.Tie as tie
-use Rattle.trials.proofs.trial.try_question.Reads as reads
-use Rattle.trials.proofs.trial.try_question.Lts as lts
-use Rattle.trials.proofs.calls.ask_again.Reads as ask-again-reads
-use Rattle.trials.proofs.calls.run.Reads as run-reads
-use Rattle.trials.proofs.marks.mark.Reads as mark-reads
-use Rattle.trials.proofs.score.note.Reads as note-reads
-use Rattle.trials.proofs.trial.try_reply.Reads as try-reply-reads
 use native.Mathlib.Omega.{arith}
 use lib.ListN.{length-take}
 

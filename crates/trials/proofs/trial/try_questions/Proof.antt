@@ -1,8 +1,6 @@
+-- `trials::trial::try_questions` meets its contract.
 use Rattle.trials.proofs.trial.try_questions.Statement.{statement}
 use Rattle.trials.proofs.trial.try_questions.Tie as tie
-use Rattle.trials.proofs.trial.try_questions.Reads as reads
-use Rattle.trials.proofs.trial.try_questions.Lts as lts
-use Rattle.trials.proofs.trial.try_numbered.Reads as try-numbered-reads
 use borrow.Author.Needs.{needs}
 use Prim.Native.Nat.{_-_}
 

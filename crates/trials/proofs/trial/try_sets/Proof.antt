@@ -1,8 +1,6 @@
+-- `trials::trial::try_sets` meets its contract.
 use Rattle.trials.proofs.trial.try_sets.Statement.{statement}
 use Rattle.trials.proofs.trial.try_sets.Tie as tie
-use Rattle.trials.proofs.trial.try_sets.Reads as reads
-use Rattle.trials.proofs.trial.try_sets.Lts as lts
-use Rattle.trials.proofs.trial.try_set.Reads as try-set-reads
 use borrow.Author.Needs.{needs}
 use Prim.Native.Nat.{_-_}
 
