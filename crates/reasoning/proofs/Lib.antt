@@ -3,6 +3,7 @@ pub mod Asking
 pub mod CallLaws
 pub mod Calling
 pub mod ConsistencyJoins
+pub mod Examples
 pub mod Meaning
 pub mod Placed
 pub mod QuestionJoins

@@ -1,7 +1,5 @@
--- E1 to E11 of 01, by computation.
+-- What answers are computed from, under one name.
 use Prim.Native.Nat.{ℕ}
-use mathlib.Core.Path.{_≡_, refl}
-use mathlib.Core.List.{map}
 use lib.Count.{leadingZeros, trailingZeros}
 use Rattle.files.specs.Number.{bytesOf, bytesOfAll}
 use Rattle.files.specs.Sets.{
@@ -121,10 +119,6 @@ use Rattle.theory.specs.Handed.{
   handedEntries,
   handedNumbers,
 }
-use Rattle.theory.specs.Examples.{Example, readAs, answerTo, examples}
-use Rattle.files.specs.Format.{onTest, onNumber, run, atEnd, runAll}
-use Rattle.files.specs.Number.{twoBytes, secondIn, numberIn}
-use Rattle.files.specs.RuleFile.{between, ruleFile}
 
 -- what answers are computed from: to unfold this is to unfold all of it
 unfoldable pub computing : ℕ
@@ -139,8 +133,3 @@ unfolding leadingZeros trailingZeros bytesOf bytesOfAll bit hasb withPath withou
     fillWord kidWord oneKids chain allKids kidsAt rootGoals goalsOn rowsFrom goalRows layer layersFrom pathOrder childPaths
     partsOn placeOf numberOf kidsOn entryOn entriesOn handedEntries handedNumbers
 computing = 0
-
--- every example has its answer
-pub examples-hold : map (λ (e : Example). answerTo (e .question)) examples ≡ map (λ (e : Example). e .answer) examples
-unfolding answerTo readAs computing runAll run atEnd onNumber onTest numberIn secondIn twoBytes ruleFile between
-examples-hold = refl
