@@ -8,7 +8,7 @@ use Rattle.files.specs.RuleFile.{between, deeper, depths, parentTest, sameChild
 use Rattle.files.specs.Rules.{pathsFrom, rulesFrom, padded, rulesOf, addAll, tableOf, noRules}
 use Rattle.files.specs.Sets.{belowAll}
 use Rattle.files.specs.Writing.{pathPasses, pathsPass, rulePasses, rulesPass, requiredPass, tablePasses, put}
-use Rattle.theory.proofs.Examples.{computing}
+use Rattle.theory.proofs.Computing.{computing}
 use Rattle.reasoning.specs.Calls.{answerOf, answered, documentBytes, inconsistentBytes, evidenceBytes, consistencyAnswer, askable, askAnswer}
 use Rattle.reasoning.specs.Examples.{verdictTold, replyTold, readTold, answerTo, Example, examples}
 

@@ -60,6 +60,14 @@ inconsistentBytes t = bytesOfAll (inconsistentNumbers (parentsOf t) (ruleListOf 
 unfoldable pub evidenceBytes : Rules → (kind p q : ℕ) → List ℕ
 evidenceBytes t kind p q = bytesOfAll (evidenceNumbers (parentsOf t) (ruleListOf t) (t .paths) kind p q)
 
+-- the bytes of what consistency answers on a valid table: the document's where it is consistent, else the evidence's
+unfoldable pub consistencyBytes : Rules → List ℕ
+consistencyBytes t =
+    elim (consistentb (parentsOf t) (ruleListOf t) (t .paths) (askedOf t)) [
+      | true ↦ documentBytes t (startConsistency (askedOf t))
+      | false ↦ inconsistentBytes t
+    ]
+
 -- what consistency answers, and the buffer: refusal 12 first, 20 last
 unfoldable pub consistencyAnswer : Rules → List ℕ → Answered Verdict
 consistencyAnswer t out =
@@ -78,6 +86,14 @@ askable t kind p q = leb 1 kind && (leb kind 3 && (ltb p (t .paths) && ltb q (t 
 -- what the counter-document of a question begins with; a co-occurrence's no shows the first failing direction
 abbrev pub counterStart : Rules → (kind p q : ℕ) → Start
 counterStart t = startNo (parentsOf t) (ruleListOf t) (t .paths)
+
+-- the bytes of what a question answers where it can be asked: the evidence's for a yes, else the counter-document's
+unfoldable pub questionBytes : Rules → (kind p q : ℕ) → List ℕ
+questionBytes t kind p q =
+    elim (yesb (parentsOf t) (ruleListOf t) (t .paths) kind p q) [
+      | true ↦ evidenceBytes t kind p q
+      | false ↦ documentBytes t (counterStart t kind p q)
+    ]
 
 -- what a question answers, and the buffer: refusal 12, then 13, 20 last
 unfoldable pub askAnswer : Rules → (kind p q : ℕ) → List ℕ → Answered Reply

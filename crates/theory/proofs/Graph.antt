@@ -19,7 +19,7 @@ use Rattle.theory.specs.Examples.{implies, excludes, pathsT, rulesE1, ru
 use Rattle.theory.specs.Graph.{ImplicationPath, empty, edge, straight, GraphInconsistent, implied, Mentioned, left, right}
 use Rattle.theory.proofs.Answers.{implies-every, consistent-some}
 use Rattle.theory.proofs.HandedDocuments.{begins-implication, document-tree, implication-document}
-use Rattle.theory.proofs.Examples.{computing}
+use Rattle.theory.proofs.Computing.{computing}
 
 -- the parents of table T
 abbrev parentT : ℕ → ℕ

@@ -2,12 +2,12 @@
 pub mod Agreeing
 pub mod Answers
 pub mod Completeness
+pub mod Computing
 pub mod Cut
 pub mod Decide
 pub mod Equivalences
 pub mod Evidence
 pub mod EvidenceSize
-pub mod Examples
 pub mod Fill
 pub mod Graph
 pub mod Handed
