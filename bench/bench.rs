@@ -9,6 +9,8 @@
 //!     bench worst FILE [COUNTS]   the slowest of them, by instructions if there are counts, else by time
 
 mod inputs;
+#[path = "../tests/entry.rs"]
+mod proved;
 
 use inputs::*;
 use plain::{Check, Refusal, Reply, Verdict};
@@ -16,42 +18,6 @@ use std::collections::{BTreeMap, HashMap};
 use std::hint::black_box;
 
 // ---------------------------------------------------------------------------------------------- the two sides
-
-mod proved {
-    extern "C" {
-        pub fn bozdurmek_rewrite(
-            rules: *const u8,
-            rules_len: usize,
-            out: *mut u8,
-            out_len: usize,
-            answer: *mut [usize; 3],
-        );
-        pub fn bozdurmek_check(
-            rules: *const u8,
-            rules_len: usize,
-            document: *const u8,
-            document_len: usize,
-            answer: *mut [usize; 3],
-        );
-        pub fn bozdurmek_consistency(
-            rules: *const u8,
-            rules_len: usize,
-            out: *mut u8,
-            out_len: usize,
-            answer: *mut [usize; 3],
-        );
-        pub fn bozdurmek_ask(
-            rules: *const u8,
-            rules_len: usize,
-            kind: usize,
-            left: usize,
-            right: usize,
-            out: *mut u8,
-            out_len: usize,
-            answer: *mut [usize; 3],
-        );
-    }
-}
 
 /// A call with its arguments, beside the rule bytes.
 #[derive(Clone, Debug)]

@@ -35,7 +35,7 @@ build() {
         quietly rt check verdict
         touch "$program"
     fi
-    if older "$driver" "$here/tests/$1.rs" "$here/tests/calls.rs" "$archive"; then
+    if older "$driver" "$here/tests/$1.rs" "$here/tests/calls.rs" "$here/tests/entry.rs" "$archive"; then
         quietly rustc --edition 2021 -O -L "$here/target/staticlib" -o "$driver" "$here/tests/$1.rs"
     fi
 }

@@ -1,24 +1,11 @@
 // The calls of the archive from Rust. Every slice lent to a call ends right before a page that must not be touched, and stands
 // after bytes that must stay as they are.
 #![allow(dead_code)]
-use std::slice;
+#[path = "entry.rs"]
+mod entry;
 
-#[link(name = "entry", kind = "static")]
-extern "C" {
-    fn bozdurmek_rewrite(rules: *const u8, rules_len: usize, out: *mut u8, out_len: usize, answer: *mut [usize; 3]);
-    fn bozdurmek_check(rules: *const u8, rules_len: usize, document: *const u8, document_len: usize, answer: *mut [usize; 3]);
-    fn bozdurmek_consistency(rules: *const u8, rules_len: usize, out: *mut u8, out_len: usize, answer: *mut [usize; 3]);
-    fn bozdurmek_ask(
-        rules: *const u8,
-        rules_len: usize,
-        kind: usize,
-        left: usize,
-        right: usize,
-        out: *mut u8,
-        out_len: usize,
-        answer: *mut [usize; 3],
-    );
-}
+use entry::*;
+use std::slice;
 
 extern "C" {
     fn mmap(at: *mut u8, size: usize, protection: i32, flags: i32, file: i32, offset: i64) -> *mut u8;
