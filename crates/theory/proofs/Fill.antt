@@ -71,7 +71,7 @@ module _ (parent : ℕ → ℕ) (reach : ℕ → ℕ → ℕ → Bool) (a : Part
       pick false true f g = (eqb-false (a .path) x f, rw g tt)
       pick false false f g = absurd (false≢true (rw (lacksb, f, g) at e))
 
-  lacks-not : (chosen : List Part) (x : ℕ) → lacksb reach a chosen x ≡ false → (a .path ≡ x → ⊥) → T (coversb reach a x)
+  pub lacks-not : (chosen : List Part) (x : ℕ) → lacksb reach a chosen x ≡ false → (a .path ≡ x → ⊥) → T (coversb reach a x)
       → T (someb (λ k. coversb reach k x) chosen)
   unfolding lacksb
   lacks-not chosen x e n t = pick (eqb (a .path) x) (coversb reach a x) (someb (λ k. coversb reach k x) chosen) refl refl refl

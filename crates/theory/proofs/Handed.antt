@@ -16,7 +16,7 @@ use Rattle.documents.specs.Parts.{further}
 use Rattle.documents.proofs.Paths.{below-le, strictly-lt, parent-strictly, towards-below, towards-unique, depth-child}
 use Rattle.theory.specs.Parts.{Part, pathOf, RulesIn, meetAll, childFor, kidsOf, partZero}
 use Rattle.theory.specs.Reachable.{subtree}
-use Rattle.theory.specs.Order.{NumberedIn, Sorted, Matches, SamePart, Precedes, LaysDown, WritesDocument}
+use Rattle.theory.specs.Order.{NumberedIn, Sorted, Matches, SamePart, Precedes, LaysDown, WritesParts}
 use Rattle.theory.specs.Handed.{
   Start,
   ReachWords,
@@ -184,7 +184,7 @@ module _ {parent : ℕ → ℕ} {rules : List Rule} {count : ℕ} {R : ℕ → �
       -- an entry lays its part down, where the blocks are the part's children
       lays-down : (a : Part) → a .path ≡ c
           → ((j : Part) → List·Memᴰ j (kidsOf parent count (wordReach R) a) ↔ List·Memᴰ j (kidParts parent count R goals start c handed w))
-          → LaysDown parent count (wordReach R) (handedParts parent count R goals start) a
+          → LaysDown (kidsOf parent count (wordReach R)) (handedParts parent count R goals start) a
           (entryOn parent count R start (chain parent count R start) (goalRows parent count R start) (pathOrder parent count) c handed w)
       unfolding entryOn
       lays-down a e is = record {
@@ -339,7 +339,7 @@ module _ {parent : ℕ → ℕ} {rules : List Rule} {count : ℕ} {R : ℕ → �
           (kid-block c false (oneKids parent count R c g) small (r .source) j .0 (r .member)))
 
   entries-match : (c : ℕ) → c < count
-      → Matches (LaysDown parent count (wordReach R) (handedParts parent count R goals start))
+      → Matches (LaysDown (kidsOf parent count (wordReach R)) (handedParts parent count R goals start))
       (blockOn goals (chain parent count R start) (goalRows parent count R start) c)
       (entriesOn parent count R start (chain parent count R start) (goalRows parent count R start) (pathOrder parent count) c)
   unfolding entriesOn block
@@ -357,13 +357,13 @@ module _ {parent : ℕ → ℕ} {rules : List Rule} {count : ℕ} {R : ℕ → �
       (onePart c g) refl (one-kids-iff (row-named desc within few words begins l h))))
 
   -- the entries lay down the parts, one by one
-  pub entries-lay : Matches (LaysDown parent count (wordReach R) (handedParts parent count R goals start))
+  pub entries-lay : Matches (LaysDown (kidsOf parent count (wordReach R)) (handedParts parent count R goals start))
       (handedParts parent count R goals start) (handedEntries parent count R start)
   unfolding handedEntries
   entries-lay = matches-each _ _ (pathOrder parent count) (λ c m. entries-match c (order-in-table parent count few c m))
 
   -- the computed document is the document that begins with part 0, written down
-  pub handed-writes : WritesDocument parent count (wordReach R) (partZero goals) (handedEntries parent count R start)
+  pub handed-writes : WritesParts parent (kidsOf parent count (wordReach R)) (partZero goals) (handedEntries parent count R start)
   handed-writes = record {
     parts = (handedParts parent count R goals start);
     begins = parts-begin desc within few shallow words begins;

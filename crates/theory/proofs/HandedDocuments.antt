@@ -18,11 +18,11 @@ use Rattle.documents.specs.PartList.{Entry, StandsFor, ValidParts}
 use Rattle.documents.proofs.Paths.{below-le, below-zero, contextOf-context, contextOf-self}
 use Rattle.theory.specs.Required.{Needed, root, listed}
 use Rattle.theory.specs.Follows.{BreaksImplication, BreaksAbsence, Witnesses}
-use Rattle.theory.specs.Parts.{meetAll, bothGoals, partZero}
+use Rattle.theory.specs.Parts.{meetAll, bothGoals, kidsOf, partZero}
 use Rattle.theory.specs.Reachable.{Fits, reachable, reachb}
 use Rattle.theory.specs.Decide.{askedIn}
 use Rattle.theory.specs.Evidence.{impliesb, excludesb, consistentb}
-use Rattle.theory.specs.Order.{Only, WritesDocument}
+use Rattle.theory.specs.Order.{Only, WritesParts, WritesDocument}
 use Rattle.theory.specs.Handed.{
   Start,
   ReachWords,
@@ -38,6 +38,7 @@ use Rattle.theory.proofs.RootPair.{askedIn-iff, askedIn-small}
 use Rattle.theory.proofs.Writes.{implies-iff, excludes-iff}
 use Rattle.theory.proofs.Answers.{reach-decides, consistent-some}
 use Rattle.theory.proofs.Kids.{meet-above}
+use Rattle.theory.proofs.Children.{computed-words, words-computed}
 use Rattle.theory.proofs.Completeness.{tree-exists}
 use Rattle.theory.proofs.HandedBack.{
   both-cases,
@@ -160,9 +161,9 @@ module _ {parent : ℕ → ℕ} {rules : List Rule} {count : ℕ} (fits : Fits p
   }
 
   module _ (shallow : (x : ℕ) → x < count → depthOf parent x ≤ 8) where
-    -- the computed document is the one written down
-    pub document-writes : {goals : List ℕ} {start : Start} → Begins parent count goals start
-        → WritesDocument parent count (reachb parent rules count) (partZero goals)
+    -- the computed document is the one written down by the computed children
+    document-writes : {goals : List ℕ} {start : Start} → Begins parent count goals start
+        → WritesParts parent (kidsOf parent count (reachb parent rules count)) (partZero goals)
         (handedEntries parent count (reachable parent rules count) start)
     unfolding reachb
     document-writes begins = handed-writes (fits .descending) (fits .rulesIn) (fits .few) shallow reachable-words begins
@@ -174,11 +175,16 @@ module _ {parent : ℕ → ℕ} {rules : List Rule} {count : ℕ} (fits : Fits p
         document-stands (fits .descending) (fits .rulesIn) (reach-decides fits) (begins .goalsIn) (begins .plain) (document-writes begins)
 
     module _ {goals : List ℕ} {start : Start} (begins : Begins parent count goals start) where
-      -- no other document is written down
-      pub document-only : {es : List Entry} → WritesDocument parent count (reachb parent rules count) (partZero goals) es
+      -- it is the document that 01's words give
+      pub document-written : WritesDocument parent rules (partZero goals) (handedEntries parent count (reachable parent rules count) start)
+      document-written = computed-words (fits .descending) (fits .rulesIn) (reach-decides fits) (begins .goalsIn) (document-writes begins)
+
+      -- and they give no other
+      pub document-only : {es : List Entry} → WritesDocument parent rules (partZero goals) es
           → es ≡ handedEntries parent count (reachable parent rules count) start
       document-only w =
-          document-unique (fits .descending) (fits .rulesIn) (reach-decides fits) (begins .goalsIn) (begins .plain) w (document-writes begins)
+          document-unique (fits .descending) (fits .rulesIn) (reach-decides fits) (begins .goalsIn) (begins .plain)
+          (words-computed (fits .descending) (fits .rulesIn) (reach-decides fits) (begins .goalsIn) w) (document-writes begins)
 
       -- at most 449 parts
       pub document-parts : length (handedEntries parent count (reachable parent rules count) start) ≤ 449

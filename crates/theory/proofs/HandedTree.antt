@@ -17,7 +17,7 @@ use Rattle.documents.proofs.Parts.{list-unfolds, unfolds-document, one-holds, p
 use Rattle.documents.proofs.Shared.{Renames, renamed-holds, renamed-fits, renamed-falls, renamed-implication, renamed-absence, renamed-obey}
 use Rattle.theory.specs.Follows.{BreaksImplication, BreaksAbsence, Witnesses}
 use Rattle.theory.specs.Parts.{Part, pathOf, RulesIn, Decides, kidsOf, partZero}
-use Rattle.theory.specs.Order.{NumberedIn, Only, byDepth, LaysDown, WritesDocument}
+use Rattle.theory.specs.Order.{NumberedIn, Only, byDepth, LaysDown, WritesParts}
 use Rattle.theory.proofs.Kids.{Goals}
 use Rattle.theory.proofs.Completeness.{fits, falls, named-goals}
 use Rattle.theory.proofs.Order.{precedes-asym, standing-is, member-of}
@@ -48,7 +48,7 @@ kids-at m = numbered-at [] (numbered-map (λ (e : Entry). e .kids) m)
 
 module _ {parent : ℕ → ℕ} {rules : List Rule} {count : ℕ} {reach : ℕ → ℕ → ℕ → Bool} {goals : List ℕ} (desc : Descending parent)
     (within : RulesIn count rules) (decides : Decides parent rules count reach) (v : Goals parent count 0 goals)
-    (plain : (g : ℕ) → Only goals g → goals ≡ g ∷ []) {es : List Entry} (w : WritesDocument parent count reach (partZero goals) es) where
+    (plain : (g : ℕ) → Only goals g → goals ≡ g ∷ []) {es : List Entry} (w : WritesParts parent (kidsOf parent count reach) (partZero goals) es) where
   -- a part with its number, and the entry that lays it down
   record Laid (n : ℕ) : Type 0 where
     part : Part
@@ -56,7 +56,7 @@ module _ {parent : ℕ → ℕ} {rules : List Rule} {count : ℕ} {reach : ℕ �
     named : Named (kidsOf parent count reach) (partZero goals ∷ []) part
     entry : Entry
     at : NumberedIn es n entry
-    lays : LaysDown parent count reach (w .parts) part entry
+    lays : LaysDown (kidsOf parent count reach) (w .parts) part entry
 
   laid : {n : ℕ} {a : Part} → NumberedIn (w .parts) n a → Laid n
   laid {n} {a} m =

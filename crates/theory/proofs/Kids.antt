@@ -91,13 +91,13 @@ module _ {parent : ℕ → ℕ} (desc : Descending parent) where
       any-small v a = walk-small desc within (v .small (a .goal) (a .listed)) (a .reach .walk)
 
 -- a goal's own child
-record Own (parent : ℕ → ℕ) (c : ℕ) (goals : List ℕ) (k : Part) : Type 0 where
-  goal : ℕ
-  listed : List·Memᴰ goal goals
-  other : c ≡ goal → ⊥
-  is : k ≡ childFor parent c goal
+pub record Own (parent : ℕ → ℕ) (c : ℕ) (goals : List ℕ) (k : Part) : Type 0 where
+  pub goal : ℕ
+  pub listed : List·Memᴰ goal goals
+  pub other : c ≡ goal → ⊥
+  pub is : k ≡ childFor parent c goal
 
-own-each : {parent : ℕ → ℕ} {k : Part} (c : ℕ) (goals : List ℕ) → List·Memᴰ k (ownEach parent c goals) → Own parent c goals k
+pub own-each : {parent : ℕ → ℕ} {k : Part} (c : ℕ) (goals : List ℕ) → List·Memᴰ k (ownEach parent c goals) → Own parent c goals k
 unfolding ownEach
 own-each c [] m = elim m [ ]
 own-each {parent} {k} c (g ∷ more) m = pick (eqb g c) refl (own-each c more)
@@ -143,7 +143,7 @@ module _ {parent : ℕ → ℕ} {rules : List Rule} {count : ℕ} {reach : ℕ �
       exact g m = decides .exactly (a .path) g x (v .below g m) (v .small g m) l
 
   -- a reachable path other than c is strictly below c
-  any-strictly : {c x : ℕ} {goals : List ℕ} → (c ≡ x → ⊥) → ReachAny parent rules c goals x → StrictlyBelow parent c x
+  pub any-strictly : {c x : ℕ} {goals : List ℕ} → (c ≡ x → ⊥) → ReachAny parent rules c goals x → StrictlyBelow parent c x
   any-strictly n r = record { below = reach-end (r .reach); other = n }
 
   placed : {c x : ℕ} {goals : List ℕ} → StrictlyBelow parent c x → x < count

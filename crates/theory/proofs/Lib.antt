@@ -1,6 +1,7 @@
 -- The laws of walks, of reachable sets, of the decisions, of evidence and of the documents handed back.
 pub mod Agreeing
 pub mod Answers
+pub mod Children
 pub mod Completeness
 pub mod Computing
 pub mod Cut

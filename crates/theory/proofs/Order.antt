@@ -23,7 +23,7 @@ use Rattle.theory.specs.Order.{
   Standing,
   LaysDown,
   Matches,
-  WritesDocument,
+  WritesParts,
 }
 use Rattle.theory.proofs.Kids.{Goals, KidOf, handed, alone, kids-are}
 use Rattle.theory.proofs.Completeness.{named-goals}
@@ -109,7 +109,7 @@ module _ {parent : ℕ → ℕ} {rules : List Rule} {count : ℕ} {reach : ℕ �
           (subst (λ (z : List ℕ). List·Memᴰ g z) (sym e) (List·Memᴰ·head refl)) in
           join (e ∙ ap (λ (z : ℕ). z ∷ []) p ∙ sym f)
 
-  module _ {es : List Entry} (w : WritesDocument parent count reach (partZero goals) es) where
+  module _ {es : List Entry} (w : WritesParts parent (kidsOf parent count reach) (partZero goals) es) where
     -- a part that stands in the list for a part of the document is that part
     pub standing-is : {n : ℕ} {j : Part} → Named (kidsOf parent count reach) (partZero goals ∷ []) j → Standing (w .parts) n j
         → NumberedIn (w .parts) n j
@@ -120,14 +120,14 @@ module _ {parent : ℕ → ℕ} {rules : List Rule} {count : ℕ} {reach : ℕ �
     pub member-of : {a : Part} → Named (kidsOf parent count reach) (partZero goals ∷ []) a → List·Memᴰ a (w .parts)
     member-of {a} n = numbered-member (standing-is n (w .every a n .1))
 
-  module _ {es fs : List Entry} (w : WritesDocument parent count reach (partZero goals) es)
-      (x : WritesDocument parent count reach (partZero goals) fs) where
+  module _ {es fs : List Entry} (w : WritesParts parent (kidsOf parent count reach) (partZero goals) es)
+      (x : WritesParts parent (kidsOf parent count reach) (partZero goals) fs) where
     parts-same : w .parts ≡ x .parts
     parts-same =
         sorted-unique precedes-asym (w .ordered) (x .ordered) (λ a m. member-of x (w .named a m)) (λ a m. member-of w (x .named a m))
 
-    numbers-into : {a : Part} {e f : Entry} → List·Memᴰ a (w .parts) → LaysDown parent count reach (w .parts) a e
-        → LaysDown parent count reach (w .parts) a f → (n : ℕ) → List·Memᴰ n (e .kids) → List·Memᴰ n (f .kids)
+    numbers-into : {a : Part} {e f : Entry} → List·Memᴰ a (w .parts) → LaysDown (kidsOf parent count reach) (w .parts) a e
+        → LaysDown (kidsOf parent count reach) (w .parts) a f → (n : ℕ) → List·Memᴰ n (e .kids) → List·Memᴰ n (f .kids)
     numbers-into {a} {e} {f} m p q n k =
         let r = p .only n k in
         let j = further a (w .named a m) (r .isKid) in
@@ -135,8 +135,8 @@ module _ {parent : ℕ → ℕ} {rules : List Rule} {count : ℕ} {reach : ℕ �
         subst (λ (z : ℕ). List·Memᴰ z (f .kids))
         (sorted-number precedes-asym (w .ordered) (standing-is w j (t .standing)) (standing-is w j (r .standing))) (t .listed)
 
-    entry-same : (a : Part) (e f : Entry) → List·Memᴰ a (w .parts) → LaysDown parent count reach (w .parts) a e
-        → LaysDown parent count reach (w .parts) a f → e ≡ f
+    entry-same : (a : Part) (e f : Entry) → List·Memᴰ a (w .parts) → LaysDown (kidsOf parent count reach) (w .parts) a e
+        → LaysDown (kidsOf parent count reach) (w .parts) a f → e ≡ f
     entry-same a e f m p q =
         let k : e .kids ≡ f .kids =
         sorted-unique less-asym (ascending-sorted (p .ascending)) (ascending-sorted (q .ascending)) (numbers-into m p q)
@@ -148,4 +148,4 @@ module _ {parent : ℕ → ℕ} {rules : List Rule} {count : ℕ} {reach : ℕ �
     pub document-unique : es ≡ fs
     document-unique =
         matches-unique entry-same (w .entries)
-        (subst (λ (l : List Part). Matches (LaysDown parent count reach l) l fs) (sym parts-same) (x .entries))
+        (subst (λ (l : List Part). Matches (LaysDown (kidsOf parent count reach) l) l fs) (sym parts-same) (x .entries))

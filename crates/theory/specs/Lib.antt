@@ -1,4 +1,5 @@
 -- The definitions of walks, reachable sets, decisions, evidence and the documents handed back.
+pub mod Children
 pub mod Decide
 pub mod Evidence
 pub mod Examples

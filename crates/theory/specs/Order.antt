@@ -2,13 +2,14 @@
 use Prim.Native.Nat.{ℕ, suc, _<_}
 use mathlib.Core.Path.{_≡_}
 use mathlib.Core.Logic.{_↔_}
-use mathlib.Core.Bool.{Bool}
 use mathlib.Core.List.{List, [], _∷_, List·Memᴰ}
 use Rattle.files.specs.Sets.{Ascending}
 use Rattle.documents.specs.Paths.{depthOf}
 use Rattle.documents.specs.Parts.{Named}
 use Rattle.documents.specs.PartList.{Entry}
-use Rattle.theory.specs.Parts.{Part, kidsOf}
+use Rattle.files.specs.Table.{Rule}
+use Rattle.theory.specs.Parts.{Part}
+use Rattle.theory.specs.Children.{ChildrenOf}
 
 -- member number n of a list is a; members are numbered from 0
 pub data NumberedIn {A : Type 0} : List A → ℕ → A → Type 0 where
@@ -57,9 +58,9 @@ pub record Standing (parts : List Part) (n : ℕ) (j : Part) : Type 0 where
   pub same : SamePart part j
 
 -- number n of the list is that of a child of part a
-pub record KidAt (parent : ℕ → ℕ) (count : ℕ) (reach : ℕ → ℕ → ℕ → Bool) (parts : List Part) (a : Part) (n : ℕ) : Type 0 where
+pub record KidAt (kids : Part → List Part) (parts : List Part) (a : Part) (n : ℕ) : Type 0 where
   pub kid : Part
-  pub isKid : List·Memᴰ kid (kidsOf parent count reach a)
+  pub isKid : List·Memᴰ kid (kids a)
   pub standing : Standing parts n kid
 
 -- a part's child has its number among the numbers named
@@ -69,18 +70,24 @@ pub record NumberOf (parts : List Part) (numbers : List ℕ) (j : Part) : Type 0
   pub standing : Standing parts number j
 
 -- an entry lays down part a: its path, and the numbers of its children, ascending strictly
-pub record LaysDown (parent : ℕ → ℕ) (count : ℕ) (reach : ℕ → ℕ → ℕ → Bool) (parts : List Part) (a : Part) (e : Entry) : Type 0 where
+pub record LaysDown (kids : Part → List Part) (parts : List Part) (a : Part) (e : Entry) : Type 0 where
   pub path : e .path ≡ a .path
   pub ascending : Ascending 0 (e .kids)
-  pub only : (n : ℕ) → List·Memᴰ n (e .kids) → KidAt parent count reach parts a n
-  pub all : (j : Part) → List·Memᴰ j (kidsOf parent count reach a) → NumberOf parts (e .kids) j
+  pub only : (n : ℕ) → List·Memᴰ n (e .kids) → KidAt kids parts a n
+  pub all : (j : Part) → List·Memᴰ j (kids a) → NumberOf parts (e .kids) j
 
--- the document that begins with a part, written down: part 0 is that part, every part that it names is there once, equal
--- parts being one, in the order of parts, each with its path and its children's numbers
-pub record WritesDocument (parent : ℕ → ℕ) (count : ℕ) (reach : ℕ → ℕ → ℕ → Bool) (start : Part) (es : List Entry) : Type 0 where
+-- parts with these children, written down: part 0 is the one given, every part that it names is there once, equal parts being
+-- one, in the order of parts, each with its path and its children's numbers
+pub record WritesParts (parent : ℕ → ℕ) (kids : Part → List Part) (start : Part) (es : List Entry) : Type 0 where
   pub parts : List Part
   pub begins : NumberedIn parts 0 start
-  pub named : (a : Part) → List·Memᴰ a parts → Named (kidsOf parent count reach) (start ∷ []) a
-  pub every : (a : Part) → Named (kidsOf parent count reach) (start ∷ []) a → (n : ℕ) × Standing parts n a
+  pub named : (a : Part) → List·Memᴰ a parts → Named kids (start ∷ []) a
+  pub every : (a : Part) → Named kids (start ∷ []) a → (n : ℕ) × Standing parts n a
   pub ordered : Sorted (Precedes parent) parts
-  pub entries : Matches (LaysDown parent count reach parts) parts es
+  pub entries : Matches (LaysDown kids parts) parts es
+
+-- the document that begins with a part, written down: every part that it names has the children that 01 gives it
+pub record WritesDocument (parent : ℕ → ℕ) (rules : List Rule) (start : Part) (es : List Entry) : Type 0 where
+  pub kids : Part → List Part
+  pub children : (a : Part) → Named kids (start ∷ []) a → ChildrenOf parent rules a (kids a)
+  pub written : WritesParts parent kids start es
