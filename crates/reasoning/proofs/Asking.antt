@@ -30,9 +30,8 @@ use Rattle.evidence.specs.Words.{Decided}
 use Rattle.handed.specs.Writer.{wordFor, startOf}
 use Rattle.reasoning.proofs.CallLaws.{ask-refuses, ask-bars, ask-shows, ask-hands}
 use Rattle.reasoning.proofs.Calling.{taken, passed-table, valid-passed}
-use Rattle.theory.proofs.HandedQuestions.{begins-no}
 use Rattle.theory.proofs.HandedRows.{Begins}
-use Rattle.reasoning.proofs.QuestionJoins.{askable-asked}
+use Rattle.reasoning.proofs.QuestionJoins.{askable-asked, counter-begins}
 use Rattle.reasoning.proofs.TableArrays.{arrays-parents, arrays-rules}
 use Rattle.reasoning.proofs.ValidFits.{table-fits}
 use Rattle.handed.proofs.Writable.{table-words, writable}
@@ -85,12 +84,13 @@ module _ (t : Rules) (word : t .required < 2 ^ 64) (parent depth table : List �
   begins : (list : List ℕ) × Begins (parentOf parent) (t .paths) list (startOf goals top)
   begins =
       let a = askable-asked t kind p q (h .can) in
-      let b = begins-no (table-fits t valid) kind p q (a .first) (a .second) in (
-        b .0,
-        subst (λ (s : Start). Begins (parentOf parent) (t .paths) (b .0) s) (sym (h .begins))
-            (subst (λ (f : ℕ → ℕ). Begins f (t .paths) (b .0) (startNo f (ruleList (t .kind) (t .left) (t .right) (t .rules)) (t .paths) kind p q))
+      let b = counter-begins t valid kind p q a in (
+        b .goals,
+        subst (λ (s : Start). Begins (parentOf parent) (t .paths) (b .goals) s) (sym (h .begins))
+            (subst (λ (f : ℕ → ℕ). Begins f (t .paths) (b .goals) (startNo f (ruleList (t .kind) (t .left) (t .right) (t .rules)) (t .paths) kind p q))
             (sym (arrays-parents t valid parent (h .lent .lent)))
-            (subst (λ (l : List _). Begins (parentsOf t) (t .paths) (b .0) (startNo (parentsOf t) l (t .paths) kind p q)) (sym (arrays-rules t)) (b .1))),
+            (subst (λ (l : List _). Begins (parentsOf t) (t .paths) (b .goals) (startNo (parentsOf t) l (t .paths) kind p q)) (sym (arrays-rules t))
+            (b .begins))),
       )
 
   pub counter-writable : Writable parent depth table (t .paths) goals top

@@ -30,9 +30,8 @@ use Rattle.reasoning.proofs.ConsistencyJoins.{
   consistency-decides,
 }
 use Rattle.theory.proofs.HandedRows.{Begins}
-use Rattle.theory.proofs.HandedQuestions.{begins-no}
 use Rattle.reasoning.proofs.Placed.{puts-answer}
-use Rattle.reasoning.proofs.QuestionJoins.{ask-invalid, ask-unasked, ask-yes, ask-no, askable-asked, yes-bounded, ask-answers}
+use Rattle.reasoning.proofs.QuestionJoins.{ask-invalid, ask-unasked, ask-yes, ask-no, askable-asked, yes-bounded, counter-begins, ask-answers}
 use Rattle.reasoning.proofs.TableArrays.{arrays-rules, arrays-parents}
 use Rattle.reasoning.proofs.ValidFits.{table-fits, table-shallow}
 
@@ -142,11 +141,6 @@ module _ (t : Rules) (kind p q : ℕ) (out : List ℕ) (word : t .required < 2 ^
     same-parents : parentOf parent ≡ parentsOf t
     same-parents = arrays-parents t sound parent lent
 
-    counter-begins : (goals : List ℕ) × Begins (parentsOf t) (t .paths) goals (counterStart t kind p q)
-    counter-begins =
-        let a = askable-asked t kind p q can in
-        begins-no (table-fits t sound) kind p q (a .first) (a .second)
-
     -- yes: the evidence was put
     pub ask-shows : yesb (parentOf parent) (arrayRules t) (t .paths) kind p q ≡ true → (numbers : List ℕ)
         → numbers ≡ evidenceNumbers (parentOf parent) (arrayRules t) (t .paths) kind p q → (w : Written) (r : Reply) (after : List ℕ)
@@ -175,7 +169,7 @@ module _ (t : Rules) (kind p q : ℕ) (out : List ℕ) (word : t .required < 2 ^
           ≡ documentBytes t (counterStart t kind p q) =
           ap₂ (λ (z : ℕ → ℕ) (l : List Rule). bytesOfAll (handedNumbers z (t .paths) R (startNo z l (t .paths) kind p q)))
           same-parents (arrays-rules t)
-          ∙ words-bytes t sound words-in (counter-begins .1) in
+          ∙ words-bytes t sound words-in (counter-begins t sound kind p q (askable-asked t kind p q can) .begins) in
           let test = subst₂ (λ (z : ℕ → ℕ) (l : List Rule). yesb z l (t .paths) kind p q ≡ false) same-parents (arrays-rules t) f in
           let h = puts-answer Reply.No Reply.Refused (documentBytes t (counterStart t kind p q)) out
           (ask-no t kind p q out passes can test) (subst (λ (b : List ℕ). Puts (put b out) w after) same s) g in

@@ -8,6 +8,5 @@ pub mod Meaning
 pub mod Placed
 pub mod QuestionJoins
 pub mod ReadBack
-pub mod Short
 pub mod TableArrays
 pub mod ValidFits

@@ -1,83 +1,68 @@
--- What the answers mean, to be read first: over a valid table, with room in the buffer, whatever meets a call's contract answers
--- consistent exactly if some document obeys the rules and holds every required path, and yes exactly if every document that obeys
--- the rules obeys the question.
-use Prim.Native.Nat.{ℕ, _^_, _≤_, _<_}
-use mathlib.Core.Path.{_≡_, sym, subst, _∙_}
+-- What the answers mean, to be read first: over a valid table, unless the answer is refusal 20, whatever meets a call's contract
+-- answers consistent exactly if some document obeys the rules and holds every required path, and yes exactly if every document
+-- that obeys the rules obeys the question.
+use Prim.Native.Nat.{ℕ}
+use mathlib.Core.Path.{_≡_}
 use mathlib.Core.Logic.{_↔_}
-use mathlib.Core.Bool.{true}
 use mathlib.Core.List.{List}
-use native.Mathlib.Omega.{arith}
-use lib.Dec.{T}
 use lib.ListN.{length}
 use Rattle.files.specs.declared.rules.Rules.{Rules}
-use Rattle.files.specs.Rules.{rulesOf, ValidTable}
+use Rattle.files.specs.Rules.{ValidTable}
 use Rattle.documents.specs.Tree.{Forest}
+use Rattle.theory.specs.Counter.{questionOf}
 use Rattle.reasoning.specs.declared.consistency.Verdict.{Verdict}
 use Rattle.reasoning.specs.declared.question.Reply.{Reply}
-use Rattle.documents.specs.Judgement.{parentsOf}
-use Rattle.reasoning.specs.Calls.{ruleListOf, askable, Follows, Breaks, questionOf, DecidesConsistency, AnswersQuestion}
-use Rattle.theory.specs.Follows.{Consistent}
-use Rattle.reasoning.proofs.ConsistencyJoins.{ConsistencyCase, consistency-case}
-use Rattle.reasoning.proofs.QuestionJoins.{QuestionCase, ask-case, breaks-follows}
+use Rattle.reasoning.specs.Calls.{Agrees, VerdictCase, Asked, Follows, Breaks, ReplyCase, DecidesConsistency, AnswersQuestion}
+use Rattle.reasoning.proofs.QuestionJoins.{breaks-follows, counters-breaks}
 
-module _ (t : Rules) (word : t .required < 2 ^ 64) (v : ValidTable t) (out : List ℕ) where
-  module _ (r : Verdict) (after : List ℕ) (d : DecidesConsistency t out r after) where
+module _ (t : Rules) (v : ValidTable t) (out : List ℕ) where
+  module _ (r : Verdict) (after : List ℕ) (d : DecidesConsistency t out r after) (room : r ≡ Verdict.Refused 20 0 → ⊥) where
     -- consistent exactly if some document of the table obeys the rules and holds every required path
-    pub consistent-means : 65536 ≤ length out
-        → ((n : ℕ) × (r ≡ Verdict.Consistent n)) ↔ Consistent (parentsOf t) (ruleListOf t) (t .paths) (rulesOf t .required)
-    consistent-means room = (
+    pub consistent-means : ((n : ℕ) × (r ≡ Verdict.Consistent n)) ↔ Agrees t
+    consistent-means = (
       λ a. let h = d .consistent (a .0) (a .1) in record { document = h .tree; witnesses = h .good },
-      λ c. by c (consistency-case t out r after word (d .answer) (d .buffer)),
+      λ c. by c (d .means),
     )
       where
-        by : Consistent (parentsOf t) (ruleListOf t) (t .paths) (rulesOf t .required) → ConsistencyCase t out r after
-            → (n : ℕ) × (r ≡ Verdict.Consistent n)
-        by c (ConsistencyCase.notValid n e s) = absurd (n v)
-        by c (ConsistencyCase.noRoom w l k e s) = absurd (omega arith)
-        by c (ConsistencyCase.agrees n w e l h) = (n, e)
-        by c (ConsistencyCase.conflicts n w e l never h) = absurd (never c)
+        by : Agrees t → VerdictCase t out r after → (n : ℕ) × (r ≡ Verdict.Consistent n)
+        by c (VerdictCase.notValid n e s) = absurd (n v)
+        by c (VerdictCase.noRoom w bytes b l e s) = absurd (room e)
+        by c (VerdictCase.consistent w a bytes i h e f) = (length bytes, e)
+        by c (VerdictCase.inconsistent w n bytes i h e f) = absurd (n c)
 
-    -- inconsistent exactly if none does; its evidence needs at most 392 bytes
-    pub inconsistent-means : 392 ≤ length out
-        → ((n : ℕ) × (r ≡ Verdict.Inconsistent n))
-        ↔ (Consistent (parentsOf t) (ruleListOf t) (t .paths) (rulesOf t .required) → ⊥)
-    inconsistent-means room = (
-      λ a. d .inconsistent (a .0) (a .1) .0,
-      λ none. by none (consistency-case t out r after word (d .answer) (d .buffer)),
-    )
+    -- inconsistent exactly if none does
+    pub inconsistent-means : ((n : ℕ) × (r ≡ Verdict.Inconsistent n)) ↔ (Agrees t → ⊥)
+    inconsistent-means = (λ a. d .inconsistent (a .0) (a .1) .0, λ none. by none (d .means))
       where
-        by : (Consistent (parentsOf t) (ruleListOf t) (t .paths) (rulesOf t .required) → ⊥) → ConsistencyCase t out r after
-            → (n : ℕ) × (r ≡ Verdict.Inconsistent n)
-        by none (ConsistencyCase.notValid n e s) = absurd (n v)
-        by none (ConsistencyCase.noRoom w l k e s) = absurd (omega (arith, k none))
-        by none (ConsistencyCase.agrees n w e l h) = absurd (none (record { document = h .tree; witnesses = h .good }))
-        by none (ConsistencyCase.conflicts n w e l never h) = (n, e)
+        by : (Agrees t → ⊥) → VerdictCase t out r after → (n : ℕ) × (r ≡ Verdict.Inconsistent n)
+        by none (VerdictCase.notValid n e s) = absurd (n v)
+        by none (VerdictCase.noRoom w bytes b l e s) = absurd (room e)
+        by none (VerdictCase.consistent w a bytes i h e f) = absurd (none a)
+        by none (VerdictCase.inconsistent w n bytes i h e f) = (length bytes, e)
 
-  module _ (kind p q : ℕ) (can : askable t kind p q ≡ true) (r : Reply) (after : List ℕ) (d : AnswersQuestion t kind p q out r after) where
-    -- yes exactly if every document of the table that obeys the rules obeys the question; its evidence needs at most 784 bytes
-    pub yes-means : 784 ≤ length out → ((n : ℕ) × (r ≡ Reply.Yes n)) ↔ Follows t (questionOf kind p q)
-    yes-means room = (
-      λ a. d .yes (a .0) (a .1) .0,
-      λ f. by f (ask-case t kind p q out r after word (d .answer) (d .buffer)),
-    )
+  module _ (kind p q : ℕ) (can : Asked t kind p q) (r : Reply) (after : List ℕ) (d : AnswersQuestion t kind p q out r after)
+      (room : r ≡ Reply.Refused 20 0 → ⊥) where
+    -- yes exactly if every document of the table that obeys the rules obeys the question
+    pub yes-means : ((n : ℕ) × (r ≡ Reply.Yes n)) ↔ Follows t (questionOf kind p q)
+    yes-means = (λ a. d .yes (a .0) (a .1) .0, λ f. by f (d .means))
       where
-        by : Follows t (questionOf kind p q) → QuestionCase t kind p q out r after → (n : ℕ) × (r ≡ Reply.Yes n)
-        by f (QuestionCase.notValid n e s) = absurd (n v)
-        by f (QuestionCase.notAsked w cannot e s) = absurd (subst T (sym can ∙ cannot) tt)
-        by f (QuestionCase.noRoom w c l k e s) = absurd (omega (arith, k f))
-        by f (QuestionCase.follows n w c e l g s) = (n, e)
-        by f (QuestionCase.broken n w c e l h) = absurd (breaks-follows (h .good) f)
+        by : Follows t (questionOf kind p q) → ReplyCase t kind p q out r after → (n : ℕ) × (r ≡ Reply.Yes n)
+        by f (ReplyCase.notValid n e s) = absurd (n v)
+        by f (ReplyCase.notAsked w n e s) = absurd (n can)
+        by f (ReplyCase.noRoom w a bytes b l e s) = absurd (room e)
+        by f (ReplyCase.yes w a g bytes i h e s) = (length bytes, e)
+        by f (ReplyCase.no w a bytes goals c i h e s) = absurd (breaks-follows (counters-breaks (h .good)) f)
 
     -- no exactly if some document of the table obeys the rules and breaks the question
-    pub no-means : 65536 ≤ length out → ((n : ℕ) × (r ≡ Reply.No n)) ↔ ((b : Forest) × Breaks t (questionOf kind p q) b)
-    no-means room = (
-      λ a. let h = d .counter (a .0) (a .1) in (h .tree, h .good),
-      λ b. by b (ask-case t kind p q out r after word (d .answer) (d .buffer)),
+    pub no-means : ((n : ℕ) × (r ≡ Reply.No n)) ↔ ((b : Forest) × Breaks t (questionOf kind p q) b)
+    no-means = (
+      λ a. let h = d .counter (a .0) (a .1) in (h .tree, counters-breaks (h .good)),
+      λ b. by b (d .means),
     )
       where
-        by : (b : Forest) × Breaks t (questionOf kind p q) b → QuestionCase t kind p q out r after → (n : ℕ) × (r ≡ Reply.No n)
-        by b (QuestionCase.notValid n e s) = absurd (n v)
-        by b (QuestionCase.notAsked w cannot e s) = absurd (subst T (sym can ∙ cannot) tt)
-        by b (QuestionCase.noRoom w c l k e s) = absurd (omega arith)
-        by b (QuestionCase.follows n w c e l f s) = absurd (breaks-follows (b .1) f)
-        by b (QuestionCase.broken n w c e l h) = (n, e)
+        by : (b : Forest) × Breaks t (questionOf kind p q) b → ReplyCase t kind p q out r after → (n : ℕ) × (r ≡ Reply.No n)
+        by b (ReplyCase.notValid n e s) = absurd (n v)
+        by b (ReplyCase.notAsked w n e s) = absurd (n can)
+        by b (ReplyCase.noRoom w a bytes x l e s) = absurd (room e)
+        by b (ReplyCase.yes w a g bytes i h e s) = absurd (breaks-follows (b .1) g)
+        by b (ReplyCase.no w a bytes goals c i h e s) = (length bytes, e)

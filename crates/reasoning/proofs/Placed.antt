@@ -10,11 +10,11 @@ use borrow.Author.Tests.{leb-true, leb-false}
 use Rattle.files.specs.declared.write.Written.{Written}
 use Rattle.files.specs.declared.write.Written.the-variants.{Length, Refused}
 use Rattle.files.specs.Writing.{put, Puts}
-use Rattle.reasoning.specs.Calls.{Answered, answerOf, answered}
+use Rattle.reasoning.specs.Calls.{Answered, answerOf, answered, Fills}
 
 -- what the answer and the buffer are once bytes were put
 pub data Placed {A : Type 0} (done : ℕ → A) (refuse : ℕ → ℕ → A) (bytes out : List ℕ) (r : A) (after : List ℕ) : Type 0 where
-  fills : length bytes ≤ length out → r ≡ done (length bytes) → take (length bytes) after ≡ bytes → Placed done refuse bytes out r after
+  fills : r ≡ done (length bytes) → Fills bytes out after → Placed done refuse bytes out r after
   tooLong : length out < length bytes → r ≡ refuse 20 0 → after ≡ out → Placed done refuse bytes out r after
 
 module _ {A : Type 0} (done : ℕ → A) (refuse : ℕ → ℕ → A) (bytes out : List ℕ) where
@@ -24,7 +24,7 @@ module _ {A : Type 0} (done : ℕ → A) (refuse : ℕ → ℕ → A) (bytes out
     where
       pick : (b : Bool) → leb (length bytes) (length out) ≡ b
           → Placed done refuse bytes out (answered done refuse (put bytes out) .answer) (answered done refuse (put bytes out) .buffer)
-      pick true e = rw e (fills (leb-true (length bytes) (length out) e) refl (take-append-seam bytes (drop (length bytes) out)))
+      pick true e = rw e (fills refl (record { fits = leb-true (length bytes) (length out) e; are = refl }))
       pick false e = rw e (tooLong (leb-false (length bytes) (length out) e) refl refl)
 
   -- an answer and a buffer that are those of bytes put
@@ -42,6 +42,14 @@ module _ {A : Type 0} (done : ℕ → A) (refuse : ℕ → ℕ → A) (bytes out
     f ∙ ap (answerOf done refuse) (p .answer) ∙ sym (ap (λ (y : Answered A). y .answer) e),
     p .buffer ∙ sym (ap (λ (y : Answered A). y .buffer) e),
   )
+
+-- bytes that fill the start of a buffer are its first ones
+pub fills-take : {bytes out after : List ℕ} → Fills bytes out after → take (length bytes) after ≡ bytes
+fills-take {bytes} {out} f = ap (take (length bytes)) (f .are) ∙ take-append-seam bytes (drop (length bytes) out)
+
+-- and fix the buffer
+pub fills-same : {bytes out after other : List ℕ} → Fills bytes out after → Fills bytes out other → after ≡ other
+fills-same f g = f .are ∙ sym (g .are)
 
 -- the answer by the cases of what putting the bytes answered
 module _ {A : Type 0} (done : ℕ → A) (refuse : ℕ → ℕ → A) (w : Written) where

@@ -1,6 +1,7 @@
 -- The document that a call hands back over a valid table: its bytes are read back as a list of parts that stands for a tree, and
 -- they are at most 65,536; the bytes of evidence are at most 784.
 use Prim.Native.Nat.{ℕ, _*_, _≤_}
+use mathlib.Core.Path.{_≡_, refl, sym, ap, _∙_}
 use mathlib.Core.List.{List}
 use native.Mathlib.Omega.{arith}
 use lib.ListN.{length}
@@ -9,16 +10,16 @@ use Rattle.files.specs.Number.{bytesOfAll}
 use Rattle.files.specs.Rules.{ValidTable}
 use Rattle.files.proofs.FileSizes.{bytesIn}
 use Rattle.documents.specs.Tree.{Forest}
-use Rattle.documents.specs.PartList.{StandsFor}
+use Rattle.documents.specs.PartList.{Entry, documentNumbers, StandsFor}
 use Rattle.documents.proofs.ValidLists.{valid-read}
 use Rattle.documents.proofs.CheckingJoins.{few-paths, below-64}
 use Rattle.documents.specs.Judgement.{parentsOf}
-use Rattle.reasoning.specs.Calls.{ruleListOf, documentBytes, HandsBack}
+use Rattle.reasoning.specs.Calls.{ruleListOf, documentBytes, IsDocument, HandsBack}
 use Rattle.theory.specs.Evidence.{Bounded}
 use Rattle.theory.specs.Handed.{Start, handedEntries, handedNumbers}
 use Rattle.theory.specs.Reachable.{reachable}
 use Rattle.theory.proofs.HandedRows.{Begins}
-use Rattle.theory.proofs.HandedDocuments.{document-tree, document-bytes, document-part-list}
+use Rattle.theory.proofs.HandedDocuments.{document-tree, document-written, document-only, document-bytes, document-part-list}
 use Rattle.theory.proofs.Sizes.{numbers-bytes}
 use Rattle.reasoning.proofs.ValidFits.{table-fits, table-shallow}
 
@@ -40,6 +41,24 @@ module _ (t : Rules) (v : ValidTable t) {goals : List ℕ} {start : Start} (begi
         stands = d .1;
         good = good (d .0) (d .1);
       }
+
+  -- the bytes are those of the document that 01 writes down
+  pub document-is : IsDocument t goals (documentBytes t start)
+  unfolding documentBytes handedNumbers
+  document-is = record {
+    parts = handedEntries (parentsOf t) (t .paths) (reachable (parentsOf t) (ruleListOf t) (t .paths)) start;
+    written = document-written (table-fits t v) (table-shallow t v) begins;
+    are = refl;
+  }
+
+  -- and no others are
+  pub document-same : {bytes others : List ℕ} → IsDocument t goals bytes → IsDocument t goals others → bytes ≡ others
+  document-same d e =
+      d .are
+      ∙ ap (λ (es : List Entry). bytesOfAll (documentNumbers es))
+      (document-only (table-fits t v) (table-shallow t v) begins (d .written)
+      ∙ sym (document-only (table-fits t v) (table-shallow t v) begins (e .written)))
+      ∙ sym (e .are)
 
   -- a document takes at most 65,536 bytes
   pub document-room : length (documentBytes t start) ≤ 65536

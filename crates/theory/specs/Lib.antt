@@ -1,5 +1,6 @@
 -- The definitions of walks, reachable sets, decisions, evidence and the documents handed back.
 pub mod Children
+pub mod Counter
 pub mod Decide
 pub mod Evidence
 pub mod Examples
