@@ -1,5 +1,5 @@
 -- Writing a rule file: the test behind refusal 12, and what the answer and the buffer are.
-use Prim.Native.Nat.{ℕ, _+_, _-_, _%_, _<_}
+use Prim.Native.Nat.{ℕ, _+_, _-_, _%_, _<_, _≤_}
 use mathlib.Core.Path.{_≡_}
 use mathlib.Core.Logic.{_↔_}
 use mathlib.Core.Bool.{Bool, true, false, cond}
@@ -106,15 +106,22 @@ pub record Puts (p : Put) (r : Written) (after : List ℕ) : Type 0 where
   pub answer : r ≡ p .answer
   pub buffer : after ≡ p .buffer
 
+-- each answer of writing a table, when it is given, and what the lent buffer then holds
+pub data WritesTable (t : Rules) (out : List ℕ) : Written → List ℕ → Type 0 where
+  -- refusal 12 where the table breaks a condition, then 20 where its file is longer than the buffer: every byte stays
+  invalid : ¬ ValidTable t → WritesTable t out (Refused 12 0) out
+  short : ValidTable t → length out < length (fileOf (rulesOf t)) → WritesTable t out (Refused 20 0) out
+  -- else its file fills the start, the file's length is returned, and later bytes are unchanged
+  written : ValidTable t → length (fileOf (rulesOf t)) ≤ length out
+      → WritesTable t out (Length (length (fileOf (rulesOf t)))) (fileOf (rulesOf t) ++ drop (length (fileOf (rulesOf t))) out)
+
 -- what writing a table into a lent buffer promises, on all tables and buffers
 pub record WriteRules (t : Rules) (out : List ℕ) (r : Written) (after : List ℕ) : Type 0 where
   -- the answer, and the whole buffer after the call
   pub puts : Puts (writeAnswer t out) r after
+  -- they are so
+  pub so : WritesTable t out r after
   -- refusal 12 exactly if the table is not valid
-  pub invalid : (r ≡ Refused 12 0) ↔ (ValidTable t → ⊥)
+  pub invalid : (r ≡ Refused 12 0) ↔ (¬ ValidTable t)
   -- refusal 20 exactly if it is valid and its file is longer than the buffer
   pub short : (r ≡ Refused 20 0) ↔ (ValidTable t × (length out < length (fileOf (rulesOf t))))
-  -- a refusal stands at 0 and leaves every byte
-  pub refused : (k at : ℕ) → r ≡ Refused k at → (at ≡ 0) × (after ≡ out)
-  -- else the file fills the start, its length is returned, and later bytes are unchanged
-  pub written : (n : ℕ) → r ≡ Length n → (n ≡ length (fileOf (rulesOf t))) × (after ≡ fileOf (rulesOf t) ++ drop n out)
