@@ -13,7 +13,8 @@ use Rattle.files.specs.declared.write.Written.{Written}
 use Rattle.files.specs.declared.write.Written.the-variants.{Length, Refused}
 use Rattle.files.specs.RuleFile.{fileOf}
 use Rattle.files.specs.Rules.{rulesOf, ValidTable}
-use Rattle.files.specs.Writing.{tablePasses, Put, put, writeAnswer, Puts, WritesTable, invalid, short, written, WriteRules}
+use Rattle.files.specs.TableTest.{tablePasses}
+use Rattle.files.specs.Writing.{Put, put, writeAnswer, Puts, WritesTable, invalid, short, written, WriteRules}
 use Rattle.files.proofs.TableTests.{passes-valid}
 
 -- ---- what is so, is so once, and says when 12 and 20 are given

@@ -9,7 +9,7 @@ use lib.Dec.{T}
 use lib.ListN.{length}
 use Rattle.files.specs.declared.rules.Rules.{Rules}
 use Rattle.files.specs.Rules.{ValidTable}
-use Rattle.files.specs.Writing.{tablePasses}
+use Rattle.files.specs.TableTest.{tablePasses}
 use Rattle.files.proofs.TableTests.{passes-valid}
 use Rattle.theory.specs.Evidence.{yesb, consistentb}
 use Rattle.theory.specs.Handed.{startConsistency}
