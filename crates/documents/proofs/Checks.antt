@@ -10,7 +10,7 @@ use Rattle.files.specs.declared.rules.Rules.{Rules}
 use Rattle.files.specs.Format.{Outcome, got, refused, runAll}
 use Rattle.files.specs.Rules.{rulesOf, parentsIn}
 use Rattle.files.specs.Table.{parentIn}
-use Rattle.files.specs.Writing.{tablePasses}
+use Rattle.files.specs.TableTest.{tablePasses}
 use Rattle.documents.specs.declared.check.Checked.{Checked}
 use Rattle.documents.specs.declared.check.Checked.the-variants.{Refused}
 use Rattle.documents.specs.declared.document.Listed.{Listed}
@@ -81,7 +81,7 @@ module _ (t : Rules) (s : List ℕ) (parent : List ℕ) (few : t .paths ≤ 64) 
       where
         by : {o : Outcome (List Entry)} {q : Listed} → DocumentAnswer s path place o q → q ≡ Listed.Parts count
             → runAll (documentFile (parentAt parent) (t .paths % 256)) s ≡ o → Taken
-        by (read {es = ps} {next = m} {count = n} e some most) g o =
+        by (read {es = ps} {next = m} {parts = n} e some most) g o =
             let x : n ≡ count = cc in
             record {
               after = m;

@@ -3,9 +3,11 @@ use Prim.Native.Nat.{ℕ, zero, suc, _+_, _≤_, _<_}
 use mathlib.Core.Path.{_≡_, refl, sym, ap, _∙_, subst}
 use mathlib.Core.Logic.{_⊎_, inl, inr, _↔_}
 use mathlib.Core.Bool.{Bool, true, false}
+use mathlib.Core.List.{List}
 use native.Mathlib.Omega.{arith}
 use lib.Dec.{T, eqb, ltb, eqb→eq, eqb-refl, ltb→lt, nltb→le}
 pub use borrow.Author.Tests.{eqb-true, eqb-false}
+use Rattle.files.specs.Table.{Path, parentIn, Depth, root, under}
 use Rattle.documents.specs.Paths.{
   Below,
   same,
@@ -322,3 +324,20 @@ module _ {parent : ℕ → ℕ} (desc : Descending parent) where
       pick : Below parent c d ⊎ Below parent d c → c ≡ d
       pick (inl k) = strict e (below-strictly k)
       pick (inr k) = sym (strict (sym e) (below-strictly k))
+
+-- what is computed by climbing is the depth of 01, and no other number is
+module _ (ps : List Path) (desc : Descending (parentIn ps)) where
+  depth-only : {x d : ℕ} → Depth ps x d → d ≡ depthOf (parentIn ps) x
+  depth-only root = sym (depth-root desc)
+  depth-only (under {x} h r) = ap suc (depth-only r) ∙ sym (depth-child desc x h)
+
+  depth-within : (fuel x : ℕ) → x < fuel → Depth ps x (depthOf (parentIn ps) x)
+  depth-within zero x h = absurd (omega arith)
+  depth-within (suc fuel) zero h = subst (Depth ps 0) (sym (depth-root desc)) root
+  depth-within (suc fuel) (suc x) h =
+      let s : parentIn ps (suc x) < suc x = desc .smaller (suc x) (omega arith) in
+      subst (Depth ps (suc x)) (sym (depth-child desc (suc x) (omega arith)))
+      (under {x = suc x} (omega arith) (depth-within fuel (parentIn ps (suc x)) (omega arith)))
+
+  pub depth-exactly : (x d : ℕ) → Depth ps x d ↔ (d ≡ depthOf (parentIn ps) x)
+  depth-exactly x d = (depth-only, λ e. rw e (depth-within (suc x) x (omega arith)))

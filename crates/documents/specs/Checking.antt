@@ -10,7 +10,7 @@ use Rattle.files.specs.Format.{Outcome, got, refused, runAll}
 use Rattle.files.specs.Rules.{rulesOf}
 use Rattle.files.specs.Sets.{hasb, withPath, union, difference, lowest}
 use Rattle.files.specs.Table.{Rule}
-use Rattle.files.specs.Writing.{tablePasses}
+use Rattle.files.specs.TableTest.{tablePasses}
 use Rattle.documents.specs.declared.check.Checked.{Checked}
 use Rattle.documents.specs.declared.check.Checked.the-variants.{Obeys, Broken, Missing, Refused}
 use Rattle.documents.specs.declared.check.Place.{Place}

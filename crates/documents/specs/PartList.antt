@@ -39,24 +39,24 @@ pathTest parent count n set p = cond (eqb n 0) (cond (eqb p 0) 0 16) (cond (ltb 
 
 -- the children of part number n, which is on path p: their count first, then their numbers, above n and below the part count
 unfoldable pub kidsOn : ℕ → ℕ → ℕ → Format Entry
-kidsOn size n p = want any (λ k. andThen (moreAscending 19 size k n []) (λ ks. done (record { path = p; kids = ks })))
+kidsOn parts n p = want any (λ k. andThen (moreAscending 19 parts k n []) (λ ks. done (record { path = p; kids = ks })))
 
 -- part number n, of which the namers' paths are the set
-unfoldable pub partAt : (parent : ℕ → ℕ) (count size n set : ℕ) → Format Entry
-partAt parent count size n set = want (pathTest parent count n set) (λ p. kidsOn size n p)
+unfoldable pub partAt : (parent : ℕ → ℕ) (count parts n set : ℕ) → Format Entry
+partAt parent count parts n set = want (pathTest parent count n set) (λ p. kidsOn parts n p)
 
 -- one part, after the parts es
-unfoldable pub onePart : (parent : ℕ → ℕ) (count size : ℕ) → List Entry → Format Entry
-onePart parent count size es = partAt parent count size (length es) (addAll 0 (namers (length es) es))
+unfoldable pub onePart : (parent : ℕ → ℕ) (count parts : ℕ) → List Entry → Format Entry
+onePart parent count parts es = partAt parent count parts (length es) (addAll 0 (namers (length es) es))
 
 -- so many parts more
-unfoldable pub moreParts : (parent : ℕ → ℕ) (count size : ℕ) → ℕ → List Entry → Format (List Entry)
-moreParts parent count size zero es = done es
-moreParts parent count size (suc k) es = andThen (onePart parent count size es) (λ e. moreParts parent count size k (es ++ (e ∷ [])))
+unfoldable pub moreParts : (parent : ℕ → ℕ) (count parts : ℕ) → ℕ → List Entry → Format (List Entry)
+moreParts parent count parts zero es = done es
+moreParts parent count parts (suc k) es = andThen (onePart parent count parts es) (λ e. moreParts parent count parts k (es ++ (e ∷ [])))
 
 -- a document of a table of `count` paths: the part count first, 1 to 512
 unfoldable pub documentFile : (parent : ℕ → ℕ) (count : ℕ) → Format (List Entry)
-documentFile parent count = want (between 1 513 15) (λ size. moreParts parent count size size [])
+documentFile parent count = want (between 1 513 15) (λ parts. moreParts parent count parts parts [])
 
 -- the path of a part, by its number
 unfoldable pub entryPath : List Entry → ℕ → ℕ

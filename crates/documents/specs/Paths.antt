@@ -56,11 +56,11 @@ climbUnder parent c (suc fuel) x = elim (eqb (parent x) c) [ true ↦ x | false 
 unfoldable pub towards : (parent : ℕ → ℕ) (c g : ℕ) → ℕ
 towards parent c g = climbUnder parent c g g
 
--- the depth of x, climbing at most `fuel` times
+-- how often x climbs to the root, and one, climbing at most `fuel` times
 unfoldable pub climbs : (parent : ℕ → ℕ) (fuel x : ℕ) → ℕ
 climbs parent zero x = 1
 climbs parent (suc fuel) x = elim (eqb x 0) [ true ↦ 1 | false ↦ suc (climbs parent fuel (parent x)) ]
 
--- the depth of a path: the root has depth 1, every other path one more than its parent
+-- the depth of a path (`Depth` of `files`), computed by climbing
 unfoldable pub depthOf : (parent : ℕ → ℕ) (x : ℕ) → ℕ
 depthOf parent x = climbs parent x x

@@ -21,17 +21,17 @@ parentAt parent x = cond (ltb x 64) (getD parent x 0) 0
 
 -- what follows a number, if one stands there
 unfoldable pub onKid : (ℕ → ℕ → List ℕ) → Number → List ℕ
-onKid follow (Is k size) = follow k size
+onKid follow (Is k width) = follow k width
 onKid follow (Refused k) = []
 
 -- so many numbers that stand at `at`, up to the first that is none
 unfoldable pub kidsFrom : List ℕ → ℕ → ℕ → List ℕ
 kidsFrom s at zero = []
-kidsFrom s at (suc k) = onKid (λ x size. x ∷ kidsFrom s (at + size) k) (numberIn (drop at s))
+kidsFrom s at (suc k) = onKid (λ x width. x ∷ kidsFrom s (at + width) k) (numberIn (drop at s))
 
 -- the numbers whose count stands at `at`
 unfoldable pub kidsAt : List ℕ → ℕ → List ℕ
-kidsAt s at = onKid (λ k size. kidsFrom s (at + size) k) (numberIn (drop at s))
+kidsAt s at = onKid (λ k width. kidsFrom s (at + width) k) (numberIn (drop at s))
 
 -- so many parts from number n on, as the arrays have their paths and the places of their child counts
 unfoldable pub entriesFrom : (s path place : List ℕ) → ℕ → ℕ → List Entry
@@ -67,13 +67,13 @@ pub data PartsAnswer (s path place : List ℕ) : Outcome (List Entry) → Sectio
       → PartsAnswer s path place (got es next) (Section.Read next)
   stopped : {k at : ℕ} → PartsAnswer s path place (refused k at) (Section.Refused k at)
 
--- the parts of a document of `size` bytes, unless bytes are left over
+-- the parts of a document of so many bytes, unless bytes are left over
 unfoldable pub listedAnswer : ℕ → ℕ → Section → Listed
-listedAnswer size count (Section.Read next) = cond (ltb next size) (Listed.Refused 11 next) (Listed.Parts count)
-listedAnswer size count (Section.Refused k at) = Listed.Refused k at
+listedAnswer bytes parts (Section.Read next) = cond (ltb next bytes) (Listed.Refused 11 next) (Listed.Parts parts)
+listedAnswer bytes parts (Section.Refused k at) = Listed.Refused k at
 
 -- a document was read, whose parts the arrays have; or the refusal
 pub data DocumentAnswer (s path place : List ℕ) : Outcome (List Entry) → Listed → Type 0 where
-  read : {es : List Entry} {next count : ℕ} → entriesFrom s path place 0 count ≡ es → 1 ≤ count → count ≤ 512
-      → DocumentAnswer s path place (got es next) (Listed.Parts count)
+  read : {es : List Entry} {next parts : ℕ} → entriesFrom s path place 0 parts ≡ es → 1 ≤ parts → parts ≤ 512
+      → DocumentAnswer s path place (got es next) (Listed.Parts parts)
   stopped : {k at : ℕ} → DocumentAnswer s path place (refused k at) (Listed.Refused k at)

@@ -23,7 +23,7 @@ use files::sets::lowest;
 use files::valid::valid_table;
 
 // Whether a document obeys: the least broken rule and the least part that breaks it, the least required path missing, or the
-// refusal's number and place.
+// refusal's number and offset.
 pub enum Checked {
     Obeys,
     Broken(usize, usize),
@@ -76,15 +76,15 @@ fn broken_part(
     left: u8,
     right: u8,
     start: usize,
-    count: usize,
+    parts: usize,
     sets: &[u64; 512],
     next: &[u16; 512],
 ) -> Place
-    requires { ⌜ (count ≤ 512) × Forward count (now next) ⌝ }
-    ensures { λ r. ⌜ r ≡ breakAlong (rule kind left right) (now (sets .entry)) (now (next .entry)) count count start ⌝ }
+    requires { ⌜ (parts ≤ 512) × Forward parts (now next) ⌝ }
+    ensures { λ r. ⌜ r ≡ breakAlong (rule kind left right) (now (sets .entry)) (now (next .entry)) parts parts start ⌝ }
 {
     let mut n = start;
-    while n < count {
+    while n < parts {
         if breaks(kind, left, right, sets[n]) {
             return Place::At(n);
         }
@@ -99,17 +99,17 @@ fn rule_broken(
     left: u8,
     right: u8,
     parent: &[u8; 64],
-    count: usize,
+    parts: usize,
     sets: &[u64; 512],
     first: &[u16; 256],
     next: &[u16; 512],
 ) -> Place
-    requires { ⌜ (count ≤ 512) × Forward count (now next) ⌝ }
-    ensures { λ r. ⌜ r ≡ breakAlong (rule kind left right) (now (sets .entry)) (now (next .entry)) count count
+    requires { ⌜ (parts ≤ 512) × Forward parts (now next) ⌝ }
+    ensures { λ r. ⌜ r ≡ breakAlong (rule kind left right) (now (sets .entry)) (now (next .entry)) parts parts
         (firstOn (now (first .entry)) (contextOf (parentAt (now (parent .entry))) left right)) ⌝ }
 {
     let c = wide(context(parent, left, right));
-    broken_part(kind, left, right, wide16(first[c]), count, sets, next)
+    broken_part(kind, left, right, wide16(first[c]), parts, sets, next)
 }
 
 // The least broken rule and the least part that breaks it.
@@ -119,18 +119,18 @@ fn broken_rule(
     right: &[u8; 256],
     many: usize,
     parent: &[u8; 64],
-    count: usize,
+    parts: usize,
     sets: &[u64; 512],
     first: &[u16; 256],
     next: &[u16; 512],
 ) -> Break
-    requires { ⌜ (many ≤ 256) × (count ≤ 512) × Forward count (now next) ⌝ }
-    ensures { λ r. ⌜ r ≡ brokenAlong (parentAt (now (parent .entry))) count (now (sets .entry)) (now (first .entry)) (now (next .entry)) 0
+    requires { ⌜ (many ≤ 256) × (parts ≤ 512) × Forward parts (now next) ⌝ }
+    ensures { λ r. ⌜ r ≡ brokenAlong (parentAt (now (parent .entry))) parts (now (sets .entry)) (now (first .entry)) (now (next .entry)) 0
         (rulesFrom (now (kind .entry)) (now (left .entry)) (now (right .entry)) 0 many) ⌝ }
 {
     let mut r = 0usize;
     while r < many {
-        match rule_broken(kind[r], left[r], right[r], parent, count, sets, first, next) {
+        match rule_broken(kind[r], left[r], right[r], parent, parts, sets, first, next) {
             Place::At(n) => {
                 return Break::Broken(r, n);
             }
@@ -168,21 +168,21 @@ fn judge(
     rules: Rules,
     parent: &[u8; 64],
     s: &[u8],
-    count: usize,
+    parts: usize,
     path: &[u8; 512],
     place: &[usize; 512],
 ) -> Checked
-    requires { ⌜ (rules .rules ≤ 256) × (1 ≤ count) × (count ≤ 512) × Laid (now s) (now path) (now place) count ⌝ }
+    requires { ⌜ (rules .rules ≤ 256) × (1 ≤ parts) × (parts ≤ 512) × Laid (now s) (now path) (now place) parts ⌝ }
     ensures { λ r. ⌜ r ≡ verdict (rules .required)
-        (getD (held (entriesFrom (now (s .entry)) (now (path .entry)) (now (place .entry)) 0 count)) 0 0)
+        (getD (held (entriesFrom (now (s .entry)) (now (path .entry)) (now (place .entry)) 0 parts)) 0 0)
         (brokenFrom (parentAt (now (parent .entry))) 0 (rulesOf rules .rules)
-        (entriesFrom (now (s .entry)) (now (path .entry)) (now (place .entry)) 0 count)
-        (held (entriesFrom (now (s .entry)) (now (path .entry)) (now (place .entry)) 0 count))) ⌝ }
+        (entriesFrom (now (s .entry)) (now (path .entry)) (now (place .entry)) 0 parts)
+        (held (entriesFrom (now (s .entry)) (now (path .entry)) (now (place .entry)) 0 parts))) ⌝ }
 {
     let mut sets = [0u64; 512];
     let mut first = [512u16; 256];
     let mut next = [512u16; 512];
-    hold_all(s, count, path, place, &mut sets, &mut first, &mut next);
+    hold_all(s, parts, path, place, &mut sets, &mut first, &mut next);
     let kind = rules.kind;
     let left = rules.left;
     let right = rules.right;
@@ -192,7 +192,7 @@ fn judge(
         &right,
         rules.rules,
         parent,
-        count,
+        parts,
         &sets,
         &first,
         &next,
@@ -218,7 +218,7 @@ fn check_parts(rules: Rules, document: &[u8]) -> Checked
         &mut place,
     ) {
         Listed::Refused(why, at) => Checked::Refused(why, at),
-        Listed::Parts(count) => judge(rules, &parent, document, count, &path, &place),
+        Listed::Parts(parts) => judge(rules, &parent, document, parts, &path, &place),
     }
 }
 

@@ -93,21 +93,21 @@ fn mark(namers: &mut [u64; 512], k: usize, p: u8)
 fn read_kids(
     s: &[u8],
     at: usize,
-    size: u32,
+    parts: u32,
     n: u32,
     p: u8,
     many: u32,
     namers: &mut [u64; 512],
 ) -> Section
-    requires { ⌜ (size ≤ 512) × (n < 512) × (length (now namers) ≡ 512) ⌝ }
+    requires { ⌜ (parts ≤ 512) × (n < 512) × (length (now namers) ≡ 512) ⌝ }
     ensures { λ r. ⌜ KidsAnswer (now (s .entry)) at many p (now (namers .entry)) (now (namers .exit))
-        (run (moreAscending 19 size many n []) at (drop at (now (s .entry)))) r ⌝ }
+        (run (moreAscending 19 parts many n []) at (drop at (now (s .entry)))) r ⌝ }
 {
     let mut last = n;
     let mut next = at;
     let mut left = many;
     while 0 < left {
-        match read_between(s, next, last + 1, size, 19) {
+        match read_between(s, next, last + 1, parts, 19) {
             Number::Refused(why) => {
                 return Section::Refused(why, next);
             }
@@ -133,17 +133,24 @@ fn part_of(p: u8, place: usize, end: Section) -> OnePart
 }
 
 // The children of part n, which is on path p: their count first.
-fn read_kid_count(s: &[u8], at: usize, size: u32, n: u32, p: u8, namers: &mut [u64; 512]) -> OnePart
-    requires { ⌜ (size ≤ 512) × (n < 512) × (length (now namers) ≡ 512) ⌝ }
+fn read_kid_count(
+    s: &[u8],
+    at: usize,
+    parts: u32,
+    n: u32,
+    p: u8,
+    namers: &mut [u64; 512],
+) -> OnePart
+    requires { ⌜ (parts ≤ 512) × (n < 512) × (length (now namers) ≡ 512) ⌝ }
     ensures { λ r. ⌜ PartAnswer (now (s .entry)) (now (namers .entry)) (now (namers .exit))
-        (run (kidsOn size n p) at (drop at (now (s .entry)))) r ⌝ }
+        (run (kidsOn parts n p) at (drop at (now (s .entry)))) r ⌝ }
 {
     match read_number(s, at) {
         Number::Refused(why) => OnePart::Refused(why, at),
         Number::Is(many, width) => part_of(
             p,
             at,
-            read_kids(s, at + width, size, n, p, many, namers),
+            read_kids(s, at + width, parts, n, p, many, namers),
         ),
     }
 }
@@ -154,13 +161,13 @@ fn read_part(
     at: usize,
     parent: &[u8; 64],
     count: u32,
-    size: u32,
+    parts: u32,
     n: usize,
     namers: &mut [u64; 512],
 ) -> OnePart
-    requires { ⌜ (count ≤ 64) × (size ≤ 512) × (n < 512) × (length (now namers) ≡ 512) ⌝ }
+    requires { ⌜ (count ≤ 64) × (parts ≤ 512) × (n < 512) × (length (now namers) ≡ 512) ⌝ }
     ensures { λ r. ⌜ PartAnswer (now (s .entry)) (now (namers .entry)) (now (namers .exit))
-        (run (partAt (parentAt (now (parent .entry))) count size n (getD (now (namers .entry)) n 0)) at (drop at (now (s .entry)))) r ⌝ }
+        (run (partAt (parentAt (now (parent .entry))) count parts n (getD (now (namers .entry)) n 0)) at (drop at (now (s .entry)))) r ⌝ }
 {
     let set = namers[n];
     match read_path(s, at, parent, count, n, set) {
@@ -168,7 +175,7 @@ fn read_part(
         Number::Is(p, width) => read_kid_count(
             s,
             at + width,
-            size,
+            parts,
             (n % 512) as u32,
             (p % 256) as u8,
             namers,
@@ -182,19 +189,27 @@ fn read_parts(
     at: usize,
     parent: &[u8; 64],
     count: u32,
-    size: usize,
+    parts: usize,
     path: &mut [u8; 512],
     place: &mut [usize; 512],
 ) -> Section
-    requires { ⌜ (count ≤ 64) × (size ≤ 512) × (length (now path) ≡ 512) × (length (now place) ≡ 512) ⌝ }
+    requires { ⌜ (count ≤ 64) × (parts ≤ 512) × (length (now path) ≡ 512) × (length (now place) ≡ 512) ⌝ }
     ensures { λ r. ⌜ PartsAnswer (now (s .entry)) (now (path .exit)) (now (place .exit))
-        (run (moreParts (parentAt (now (parent .entry))) count size size []) at (drop at (now (s .entry)))) r ⌝ }
+        (run (moreParts (parentAt (now (parent .entry))) count parts parts []) at (drop at (now (s .entry)))) r ⌝ }
 {
     let mut namers = [0u64; 512];
     let mut next = at;
     let mut n = 0usize;
-    while n < size {
-        match read_part(s, next, parent, count, (size % 1024) as u32, n, &mut namers) {
+    while n < parts {
+        match read_part(
+            s,
+            next,
+            parent,
+            count,
+            (parts % 1024) as u32,
+            n,
+            &mut namers,
+        ) {
             OnePart::Refused(why, at) => {
                 return Section::Refused(why, at);
             }
@@ -210,8 +225,8 @@ fn read_parts(
 }
 
 // The parts that were read, unless bytes are left over.
-fn to_end(s: &[u8], size: usize, end: Section) -> Listed
-    ensures { λ r. ⌜ r ≡ listedAnswer (length (now (s .entry))) size end ⌝ }
+fn to_end(s: &[u8], parts: usize, end: Section) -> Listed
+    ensures { λ r. ⌜ r ≡ listedAnswer (length (now (s .entry))) parts end ⌝ }
 {
     match end {
         Section::Refused(why, at) => Listed::Refused(why, at),
@@ -219,7 +234,7 @@ fn to_end(s: &[u8], size: usize, end: Section) -> Listed
             if next < s.len() {
                 return Listed::Refused(11, next);
             }
-            Listed::Parts(size)
+            Listed::Parts(parts)
         }
     }
 }
@@ -238,8 +253,8 @@ pub(crate) fn read_document(
 {
     match read_between(s, 0, 1, 513, 15) {
         Number::Refused(why) => Listed::Refused(why, 0),
-        Number::Is(size, width) => {
-            let many = wide_number(size);
+        Number::Is(parts, width) => {
+            let many = wide_number(parts);
             to_end(
                 s,
                 many,

@@ -53,22 +53,22 @@ fn children_hold(s: &[u8], at: usize, sets: &[u64; 512]) -> u64
     }
 }
 
-// The sets of `count` parts, the least part on each path, and for each part the next on its path; 512 where there is none.
+// The sets of so many parts, the least part on each path, and for each part the next on its path; 512 where there is none.
 pub(crate) fn hold_all(
     s: &[u8],
-    count: usize,
+    parts: usize,
     path: &[u8; 512],
     place: &[usize; 512],
     sets: &mut [u64; 512],
     first: &mut [u16; 256],
     next: &mut [u16; 512],
 )
-    requires { ⌜ (count ≤ 512) × Laid (now s) (now path) (now place) count
+    requires { ⌜ (parts ≤ 512) × Laid (now s) (now path) (now place) parts
         × (length (now sets) ≡ 512) × (now first ≡ replicate 256 512) × (length (now next) ≡ 512) ⌝ }
-    ensures { λ _. ⌜ Linked (now (s .entry)) (now (path .entry)) (now (place .entry)) count 0 (now (sets .exit)) (now (first .exit))
+    ensures { λ _. ⌜ Linked (now (s .entry)) (now (path .entry)) (now (place .entry)) parts 0 (now (sets .exit)) (now (first .exit))
         (now (next .exit)) ⌝ }
 {
-    let mut n = count;
+    let mut n = parts;
     while 0 < n {
         n -= 1;
         let p = wide(path[n]);

@@ -10,7 +10,7 @@ use Rattle.files.specs.Number.{bytesOf, bytesOfAll}
 use Rattle.files.specs.RuleFile.{between, depths, deeper, parentTest, labelTest, repeats, sameChild, pathNumbers, ruleNumbers, numbersOf, fileOf}
 use Rattle.files.specs.Sets.{bit, common, difference, belowAll, membersFrom, members}
 use Rattle.files.specs.Table.{Path, Rule, RuleSet, Valid}
-use Rattle.files.specs.Writing.{pathPasses, pathsPass, rulePasses, rulesPass, requiredPass}
+use Rattle.files.specs.TableTest.{pathPasses, pathsPass, rulePasses, rulesPass, requiredPass}
 use Rattle.files.proofs.FileParts.{Within, ascending-few}
 use Rattle.files.proofs.Numbers.{bytes-short, bytes-long}
 use Rattle.files.proofs.Passing.{both-true, path-passes, rule-passes}

@@ -12,7 +12,7 @@ use borrow.Author.Tests.{lt-ltb, eq-eqb, ltb-true, eqb-true}
 use Rattle.files.specs.Number.{limit}
 use Rattle.files.specs.RuleFile.{between, depths, parentTest, labelTest}
 use Rattle.files.specs.Table.{Path, Rule, Numbered, first, later}
-use Rattle.files.specs.Writing.{both, pathPasses, pathsPass, rulePasses, rulesPass}
+use Rattle.files.specs.TableTest.{both, pathPasses, pathsPass, rulePasses, rulesPass}
 use Rattle.files.proofs.Rows.{between-passes, parent-passes}
 
 pub both-true : (a b : Bool) → both a b ≡ true → (a ≡ true) × (b ≡ true)

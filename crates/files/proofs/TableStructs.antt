@@ -1,22 +1,18 @@
--- The struct that reading hands back stands for the rule set that was read; so writing and reading undo each other.
-use Prim.Native.Nat.{ℕ, suc, _+_, _-_, _^_, _<_, _≤_}
+-- The struct that reading hands back stands for the rule set that was read, and is a valid table.
+use Prim.Native.Nat.{ℕ, suc, _+_, _-_, _^_, _<_}
 use mathlib.Core.Path.{_≡_, refl, sym, ap, subst, _∙_}
 use mathlib.Core.Logic.{⊎-elim}
 use mathlib.Core.List.{List, [], _∷_, _++_, map, append-nil, List·Memᴰ, List·Memᴰ·head, List·Memᴰ·tail}
 use native.Mathlib.Omega.{arith}
-use lib.ListN.{length, getD, take, drop}
-use lib.Seq.{append-snoc, take-append-seam}
-use borrow.Author.Tests.{le-leb}
+use lib.ListN.{length, getD}
+use lib.Seq.{append-snoc}
 use Rattle.files.specs.declared.rules.Rules.{Rules}
-use Rattle.files.specs.Format.{got, runAll}
-use Rattle.files.specs.Number.{Bytes}
-use Rattle.files.specs.RuleFile.{ruleFile, fileOf}
+use Rattle.files.specs.RuleFile.{fileOf}
 use Rattle.files.specs.Rules.{pathsFrom, rulesFrom, padded, rulesOf, ValidTable, addAll, tableOf}
 use Rattle.files.specs.Sets.{Has, withPath, members, Ascending, none, next}
 use Rattle.files.specs.Table.{Rule, RuleSet, parents, labels, Valid}
 use Rattle.files.specs.Writing.{put, writeAnswer}
 use Rattle.files.proofs.Padded.{padded-get}
-use Rattle.files.proofs.RuleFiles.{written-reads, read-only}
 use Rattle.files.proofs.SetBits.{bit-of-zero, not-has, has-with, with-lt}
 use Rattle.files.proofs.SetMembers.{members-of-zero, members-with}
 use Rattle.files.proofs.Tables.{paths-back, rules-back}
@@ -83,38 +79,7 @@ pub table-word : (r : RuleSet) → tableOf r .required < 2 ^ 64
 unfolding tableOf
 table-word r = add-all-lt 0 (r .required) (omega arith)
 
--- ---- there and back
-
--- the file of what was read is the file that was read
-pub read-write : (s : List ℕ) → Bytes s → (r : RuleSet) → runAll ruleFile s ≡ got r (length s) → fileOf (rulesOf (tableOf r)) ≡ s
-read-write s bs r e =
-    let h = read-only s bs r (length s) e in
-    ap fileOf (rules-of-table r (h .0)) ∙ sym (h .1)
-
--- what was written is read as the same rules
-pub write-read : (t : Rules) → ValidTable t → runAll ruleFile (fileOf (rulesOf t)) ≡ got (rulesOf t) (length (fileOf (rulesOf t)))
-write-read t v = written-reads (rulesOf t) (v .valid)
-
--- and the struct handed back stands for the same rules, whatever the unused slots of the table written held
-pub same-rules : (t : Rules) → ValidTable t → rulesOf (tableOf (rulesOf t)) ≡ rulesOf t
-same-rules t v = rules-of-table (rulesOf t) (v .valid)
-
 -- a valid table is put into the buffer as its file
 pub write-valid : (t : Rules) → t .required < 2 ^ 64 → ValidTable t → (out : List ℕ) → writeAnswer t out ≡ put (fileOf (rulesOf t)) out
 unfolding writeAnswer
 write-valid t f v out = rw (passes-valid t f .1 v)
-
--- writing what was read puts the same bytes
-pub read-then-write : (s : List ℕ) → Bytes s → (r : RuleSet) → runAll ruleFile s ≡ got r (length s) → (out : List ℕ)
-    → writeAnswer (tableOf r) out ≡ put s out
-read-then-write s bs r e out =
-    write-valid (tableOf r) (table-word r) (table-valid r (read-only s bs r (length s) e .0)) out
-    ∙ ap (λ (bytes : List ℕ). put bytes out) (read-write s bs r e)
-
--- reading what was written, where the buffer is long enough, gives the same rules
-pub write-then-read : (t : Rules) → t .required < 2 ^ 64 → ValidTable t → (out : List ℕ) → length (fileOf (rulesOf t)) ≤ length out
-    → runAll ruleFile (take (length (fileOf (rulesOf t))) (writeAnswer t out .buffer)) ≡ got (rulesOf t) (length (fileOf (rulesOf t)))
-unfolding put
-write-then-read t f v out h =
-    let file : List ℕ = fileOf (rulesOf t) in
-    rw (write-valid t f v out, le-leb (length file) (length out) h, take-append-seam file (drop (length file) out)) (write-read t v)

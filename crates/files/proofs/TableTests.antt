@@ -3,7 +3,7 @@ use Prim.Native.Nat.{ℕ, suc, _+_, _-_, _^_, _<_, _≤_}
 use mathlib.Core.Path.{_≡_, sym, subst, _∙_}
 use mathlib.Core.Logic.{_↔_, ⊎-elim}
 use mathlib.Core.Bool.{true}
-use mathlib.Core.List.{List, [], List·Memᴰ, List·Memᴰ·head, List·Memᴰ·not-nil, List·Memᴰ·cases-cons}
+use mathlib.Core.List.{List, List·Memᴰ, List·Memᴰ·head, List·Memᴰ·not-nil, List·Memᴰ·cases-cons}
 use native.Mathlib.Decide.{decLt, ℕ-discrete}
 use native.Mathlib.Omega.{arith}
 use lib.ListN.{length, getD}
@@ -12,9 +12,9 @@ use borrow.Author.Tests.{lt-ltb, eq-eqb, ltb-true, eqb-true}
 use Rattle.files.specs.declared.rules.Rules.{Rules}
 use Rattle.files.specs.Number.{limit}
 use Rattle.files.specs.RuleFile.{between}
-use Rattle.files.specs.Rules.{pathsFrom, rulesOf, ValidTable}
+use Rattle.files.specs.Rules.{rulesOf, ValidTable}
 use Rattle.files.specs.Sets.{Has, common, difference, belowAll, members, Ascending, none, next}
-use Rattle.files.specs.Writing.{both, pathsPass, requiredPass, tablePasses}
+use Rattle.files.specs.TableTest.{both, requiredPass, pathsValid, rulesValid, tablePasses}
 use Rattle.files.proofs.FileParts.{Within}
 use Rattle.files.proofs.Passing.{both-true, both-made}
 use Rattle.files.proofs.Rows.{between-passes}
@@ -103,12 +103,12 @@ module _ (t : Rules) (f : t .required < 2 ^ 64) where
   many-rules = rules-length (t .kind) (t .left) (t .right) 0 (t .rules)
 
   passes-only : tablePasses t ≡ true → ValidTable t
-  unfolding tablePasses rulesOf
+  unfolding tablePasses pathsValid rulesValid rulesOf
   passes-only e =
-      let a = both-true (eqb (between 1 65 3 (t .paths)) 0) _ e in
+      let p = both-true (pathsValid (t .parent) (t .label) (t .paths)) _ e in
+      let a = both-true (eqb (between 1 65 3 (t .paths)) 0) _ (p .0) in
       let b = both-true (ltb (getD (t .label) 0 0) limit) _ (a .1) in
-      let c = both-true (pathsPass [] (pathsFrom (t .parent) (t .label) 1 (t .paths - 1))) _ (b .1) in
-      let d = both-true (requiredPass (t .paths) (t .required)) _ (c .1) in
+      let d = both-true (requiredPass (t .paths) (t .required)) _ (p .1) in
       let g = both-true (eqb (between 0 257 8 (t .rules)) 0) _ (d .1) in
       let count = between-passes 1 65 3 (t .paths) (omega arith) .0 (eqb-true _ 0 (a .0)) in
       let same = as-many (count .0) in
@@ -121,7 +121,7 @@ module _ (t : Rules) (f : t .required < 2 ^ 64) where
             (record {
               count = omega (arith, count .1);
               root = ltb-true (getD (t .label) 0 0) limit (b .0);
-              paths = c .0;
+              paths = b .1;
               required = req .0;
               present = λ x m. omega (arith, req .1 x m);
               many = omega (arith, rules .1, many-rules);
@@ -130,18 +130,18 @@ module _ (t : Rules) (f : t .required < 2 ^ 64) where
       }
 
   only-passes : ValidTable t → tablePasses t ≡ true
-  unfolding tablePasses rulesOf
+  unfolding tablePasses pathsValid rulesValid rulesOf
   only-passes v =
       let p = valid-passing (rulesOf t) (v .valid) in
       let same = as-many (v .some) in
       let few : t .paths ≤ 64 = omega (arith, p .count) in
-      both-made _ _ (eq-eqb _ 0 (between-passes 1 65 3 (t .paths) (omega arith) .1 (omega (arith, v .some), omega arith)))
-      (both-made _ _ (lt-ltb (getD (t .label) 0 0) limit (p .root))
-      (both-made _ _ (p .paths)
+      both-made _ _
+      (both-made _ _ (eq-eqb _ 0 (between-passes 1 65 3 (t .paths) (omega arith) .1 (omega (arith, v .some), omega arith)))
+      (both-made _ _ (lt-ltb (getD (t .label) 0 0) limit (p .root)) (p .paths)))
       (both-made _ _
       (required-passes (t .paths) (t .required) f few .1 (p .required, λ x m. omega (arith, p .present x m)))
       (both-made _ _ (eq-eqb _ 0 (between-passes 0 257 8 (t .rules) (omega arith) .1 (omega arith, omega (arith, p .many, many-rules))))
-      (rw same at (p .rules))))))
+      (rw same at (p .rules))))
 
   -- the test behind refusal 12 holds exactly where the table is valid
   pub passes-valid : (tablePasses t ≡ true) ↔ ValidTable t

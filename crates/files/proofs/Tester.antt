@@ -14,7 +14,7 @@ use Rattle.files.specs.RuleFile.{between, deeper, depths, parentTest, la
 use Rattle.files.specs.Rules.{pathsFrom, rulesFrom, padded}
 use Rattle.files.specs.Sets.{common, difference, belowAll}
 use Rattle.files.specs.Table.{Path}
-use Rattle.files.specs.Writing.{both, pathPasses, passingDepth, pathsPass, ruleAt, rulePasses, rulesPass, requiredPass, pathsValid, rulesValid, tablePasses}
+use Rattle.files.specs.TableTest.{both, pathPasses, passingDepth, pathsPass, ruleAt, rulePasses, rulesPass, requiredPass, pathsValid, rulesValid, tablePasses}
 use Rattle.files.proofs.Collect.{rules-step}
 use Rattle.files.proofs.Padded.{padded-get, padded-store}
 use Rattle.files.proofs.Reader.{between-low, between-past, between-in, paths-step, paths-own, parent-padded, parent-below, parent-shallow}
@@ -256,31 +256,18 @@ pub ruleset rules-valid-laws = (rules-many, rules-all)
 
 -- ---- the table
 
-both-three : (a b c d : Bool) → both a (both b (both c d)) ≡ both (both a (both b c)) d
-both-three true true c d = refl
-both-three true false c d = refl
-both-three false b c d = refl
-
-table-parts : (t : Rules) → tablePasses t
-    ≡ both (pathsValid (t .parent) (t .label) (t .paths))
-    (both (requiredPass (t .paths) (t .required)) (rulesValid (t .kind) (t .left) (t .right) (t .rules) (t .paths)))
-unfolding tablePasses pathsValid rulesValid
-table-parts t =
-    both-three
-    (eqb (between 1 65 3 (t .paths)) 0)
-    (ltb (getD (t .label) 0 0) limit)
-    (pathsPass [] (pathsFrom (t .parent) (t .label) 1 (t .paths - 1)))
-    (both (requiredPass (t .paths) (t .required)) (rulesValid (t .kind) (t .left) (t .right) (t .rules) (t .paths)))
-
 module _ (t : Rules) (a : Bool) (f : a ≡ pathsValid (t .parent) (t .label) (t .paths)) where
   pub table-paths : not a ≡ true → false ≡ tablePasses t
-  table-paths h = rw (table-parts t, ← f, not-true a h)
+  unfolding tablePasses
+  table-paths h = rw (← f, not-true a h)
 
   module _ (b : Bool) (h : not a ≡ false) (g : b ≡ requiredPass (t .paths) (t .required)) where
     pub table-required : not b ≡ true → false ≡ tablePasses t
-    table-required i = rw (table-parts t, ← f, not-false a h, ← g, not-true b i)
+    unfolding tablePasses
+    table-required i = rw (← f, not-false a h, ← g, not-true b i)
 
     pub table-rules : (c : Bool) → not b ≡ false → c ≡ rulesValid (t .kind) (t .left) (t .right) (t .rules) (t .paths) → c ≡ tablePasses t
-    table-rules c i e = rw (table-parts t, ← f, not-false a h, ← g, not-false b i) e
+    unfolding tablePasses
+    table-rules c i e = rw (← f, not-false a h, ← g, not-false b i) e
 
 pub ruleset table-laws = (table-paths, table-required, table-rules)

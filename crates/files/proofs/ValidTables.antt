@@ -9,7 +9,7 @@ use Rattle.files.specs.Number.{limit}
 use Rattle.files.specs.RuleFile.{depths}
 use Rattle.files.specs.Sets.{Ascending}
 use Rattle.files.specs.Table.{Path, Rule, Numbered, RuleSet, labels, parentIn, Depth, Valid}
-use Rattle.files.specs.Writing.{pathsPass, rulesPass}
+use Rattle.files.specs.TableTest.{pathsPass, rulesPass}
 use Rattle.files.proofs.Depths.{At, at, at-place, parent-there, parent-before, label-there, label-before, depths-there, depths-root, Smaller, depth-only, depth-is}
 use Rattle.files.proofs.Passing.{PathGood, paths-each, paths-made, RuleGood, rules-each, rules-made}
 use Rattle.files.proofs.Rows.{row-6}

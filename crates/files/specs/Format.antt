@@ -20,30 +20,30 @@ unfoldable pub andThen : {A B : Type 0} → Format A → (A → Format B) → Fo
 andThen (done a) f = f a
 andThen (want test next) f = want test (λ n. andThen (next n) f)
 
--- what reading answers: a value and the place after it, or a refusal's number and its place
+-- what reading answers: a value and the place after it, or a refusal's number and its offset
 pub data Outcome (A : Type 0) : Type 0 where
   got : A → ℕ → Outcome A
   refused : ℕ → ℕ → Outcome A
 
 -- a number tested: where its test says 0, what follows; else that refusal, at the number
 unfoldable pub onTest : {A : Type 0} → ℕ → (ℕ → ℕ → Outcome A) → ℕ → ℕ → ℕ → Outcome A
-onTest at follow n size zero = follow n size
-onTest at follow n size (suc k) = refused (suc k) at
+onTest at follow n width zero = follow n width
+onTest at follow n width (suc k) = refused (suc k) at
 
 -- what stands where a number is wanted: a number is tested, anything else is its refusal
 unfoldable pub onNumber : {A : Type 0} → ℕ → (ℕ → ℕ) → (ℕ → ℕ → Outcome A) → Number → Outcome A
-onNumber at test follow (Is n size) = onTest at follow n size (test n)
+onNumber at test follow (Is n width) = onTest at follow n width (test n)
 onNumber at test follow (Refused k) = refused k at
 
 -- reading the bytes `s`, which stand at place `at` of the file: each number is tested as soon as it is read
 unfoldable pub run : {A : Type 0} → Format A → ℕ → List ℕ → Outcome A
 run (done a) at s = got a at
-run (want test next) at s = onNumber at test (λ n size. run (next n) (at + size) (drop size s)) (numberIn s)
+run (want test next) at s = onNumber at test (λ n width. run (next n) (at + width) (drop width s)) (numberIn s)
 
 -- nothing may stand after the last number (refusal 11 at the first leftover byte)
 unfoldable pub atEnd : {A : Type 0} → ℕ → Outcome A → Outcome A
-atEnd size (got a at) = cond (ltb at size) (refused 11 at) (got a at)
-atEnd size (refused k at) = refused k at
+atEnd bytes (got a at) = cond (ltb at bytes) (refused 11 at) (got a at)
+atEnd bytes (refused k at) = refused k at
 
 -- reading a whole file
 unfoldable pub runAll : {A : Type 0} → Format A → List ℕ → Outcome A

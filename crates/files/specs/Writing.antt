@@ -1,73 +1,19 @@
--- Writing a rule file: the test behind refusal 12, and what the answer and the buffer are.
-use Prim.Native.Nat.{ℕ, _+_, _-_, _%_, _<_}
+-- Writing a rule file: what the answer and the buffer are.
+use Prim.Native.Nat.{ℕ, _-_, _%_, _<_, _≤_}
 use mathlib.Core.Path.{_≡_}
 use mathlib.Core.Logic.{_↔_}
-use mathlib.Core.Bool.{Bool, true, false, cond}
-use mathlib.Core.List.{List, [], _∷_, _++_, map}
+use mathlib.Core.Bool.{cond}
+use mathlib.Core.List.{List, _∷_, _++_, map}
 use lib.ListN.{length, getD, drop}
-use lib.Dec.{ltb, leb, eqb}
+use lib.Dec.{leb}
 use Rattle.files.specs.declared.rules.Rules.{Rules}
 use Rattle.files.specs.declared.write.Written.{Written}
 use Rattle.files.specs.declared.write.Written.the-variants.{Length, Refused}
 use Rattle.files.specs.Number.{limit}
-use Rattle.files.specs.RuleFile.{between, parentTest, labelTest, depths, pathNumbers, ruleNumbers, fileOf}
+use Rattle.files.specs.RuleFile.{pathNumbers, ruleNumbers, fileOf}
 use Rattle.files.specs.Rules.{rulesOf, pathsFrom, rulesFrom, ValidTable}
-use Rattle.files.specs.Sets.{common, difference, belowAll, members}
-use Rattle.files.specs.Table.{Path, Rule}
-
--- whether both tests pass
-abbrev pub both : Bool → Bool → Bool
-both a b = cond a b false
-
--- a path's parent and label pass their tests after the paths ps, and its label is a number of the file
-unfoldable pub pathPasses : List Path → Path → Bool
-pathPasses ps p =
-    both (eqb (parentTest (depths ps) (1 + length ps) (p .parent)) 0) (both (eqb (labelTest ps (p .parent) (p .label)) 0) (ltb (p .label) limit))
-
--- so do all the paths that follow ps
-unfoldable pub pathsPass : List Path → List Path → Bool
-pathsPass ps [] = true
-pathsPass ps (p ∷ rest) = both (pathPasses ps p) (pathsPass (ps ++ (p ∷ [])) rest)
-
--- the depth of a path that passes its tests after the paths ps, else 0
-unfoldable pub passingDepth : List Path → ℕ → ℕ → ℕ
-passingDepth ps p l = cond (pathPasses ps (record { parent = p; label = l })) (1 + getD (depths ps) p 0) 0
-
--- rule number x, as the arrays have it
-abbrev pub ruleAt : List ℕ → List ℕ → List ℕ → ℕ → Rule
-ruleAt kind left right x = record { kind = getD kind x 0; left = getD left x 0; right = getD right x 0 }
-
--- a rule's kind and sides pass their tests in a table of `count` paths
-unfoldable pub rulePasses : ℕ → Rule → Bool
-rulePasses count ru =
-    both (eqb (between 1 4 9 (ru .kind)) 0) (both (eqb (between 0 count 10 (ru .left)) 0) (eqb (between 0 count 10 (ru .right)) 0))
-
--- so do all of them
-unfoldable pub rulesPass : ℕ → List Rule → Bool
-rulesPass count [] = true
-rulesPass count (ru ∷ rest) = both (rulePasses count ru) (rulesPass count rest)
-
--- the required paths are in the table, and the root is none of them
-unfoldable pub requiredPass : ℕ → ℕ → Bool
-requiredPass count w = both (eqb (common w 1) 0) (eqb (difference w (belowAll count)) 0)
-
--- the part of the test behind refusal 12 that is about the paths: their count, the root's label, then each path
-unfoldable pub pathsValid : List ℕ → List ℕ → ℕ → Bool
-pathsValid parent label count =
-    both (eqb (between 1 65 3 count) 0) (both (ltb (getD label 0 0) limit) (pathsPass [] (pathsFrom parent label 1 (count - 1))))
-
--- the part of it that is about the rules: their count, then each rule
-unfoldable pub rulesValid : List ℕ → List ℕ → List ℕ → ℕ → ℕ → Bool
-rulesValid kind left right many count = both (eqb (between 0 257 8 many) 0) (rulesPass count (rulesFrom kind left right 0 many))
-
--- the test behind refusal 12
-unfoldable pub tablePasses : Rules → Bool
-tablePasses t =
-    both (eqb (between 1 65 3 (t .paths)) 0)
-    (both (ltb (getD (t .label) 0 0) limit)
-    (both (pathsPass [] (pathsFrom (t .parent) (t .label) 1 (t .paths - 1)))
-    (both (requiredPass (t .paths) (t .required))
-    (both (eqb (between 0 257 8 (t .rules)) 0) (rulesPass (t .paths) (rulesFrom (t .kind) (t .left) (t .right) 0 (t .rules)))))))
+use Rattle.files.specs.Sets.{members}
+use Rattle.files.specs.TableTest.{tablePasses}
 
 -- an answer with what the lent buffer then holds
 pub record Put : Type 0 where
@@ -106,15 +52,22 @@ pub record Puts (p : Put) (r : Written) (after : List ℕ) : Type 0 where
   pub answer : r ≡ p .answer
   pub buffer : after ≡ p .buffer
 
+-- each answer of writing a table, when it is given, and what the lent buffer then holds
+pub data WritesTable (t : Rules) (out : List ℕ) : Written → List ℕ → Type 0 where
+  -- refusal 12 where the table breaks a condition, then 20 where its file is longer than the buffer: every byte stays
+  invalid : ¬ ValidTable t → WritesTable t out (Refused 12 0) out
+  short : ValidTable t → length out < length (fileOf (rulesOf t)) → WritesTable t out (Refused 20 0) out
+  -- else its file fills the start, the file's length is returned, and later bytes are unchanged
+  written : ValidTable t → length (fileOf (rulesOf t)) ≤ length out
+      → WritesTable t out (Length (length (fileOf (rulesOf t)))) (fileOf (rulesOf t) ++ drop (length (fileOf (rulesOf t))) out)
+
 -- what writing a table into a lent buffer promises, on all tables and buffers
 pub record WriteRules (t : Rules) (out : List ℕ) (r : Written) (after : List ℕ) : Type 0 where
   -- the answer, and the whole buffer after the call
   pub puts : Puts (writeAnswer t out) r after
+  -- they are so
+  pub so : WritesTable t out r after
   -- refusal 12 exactly if the table is not valid
-  pub invalid : (r ≡ Refused 12 0) ↔ (ValidTable t → ⊥)
+  pub invalid : (r ≡ Refused 12 0) ↔ (¬ ValidTable t)
   -- refusal 20 exactly if it is valid and its file is longer than the buffer
   pub short : (r ≡ Refused 20 0) ↔ (ValidTable t × (length out < length (fileOf (rulesOf t))))
-  -- a refusal stands at 0 and leaves every byte
-  pub refused : (k at : ℕ) → r ≡ Refused k at → (at ≡ 0) × (after ≡ out)
-  -- else the file fills the start, its length is returned, and later bytes are unchanged
-  pub written : (n : ℕ) → r ≡ Length n → (n ≡ length (fileOf (rulesOf t))) × (after ≡ fileOf (rulesOf t) ++ drop n out)

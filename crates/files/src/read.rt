@@ -56,7 +56,7 @@ struct RuleList {
     right: [u8; 256],
 }
 
-// Whether a file was accepted, or its refusal's number and place.
+// Whether a file was accepted, or its refusal's number and offset.
 pub enum Answer {
     Accepted,
     Refused(u8, usize),
@@ -82,13 +82,13 @@ fn between(low: u32, past: u32, refusal: u8, n: u32) -> u8
 }
 
 // A number of which the test says `why`: the number where that is 0, else the refusal.
-pub fn passed(n: u32, size: usize, why: u8) -> Number
-    ensures { λ r. ⌜ r ≡ passed n size why ⌝ }
+pub fn passed(n: u32, width: usize, why: u8) -> Number
+    ensures { λ r. ⌜ r ≡ passed n width why ⌝ }
 {
     if 0 < why {
         return Number::Refused(why);
     }
-    Number::Is(n, size)
+    Number::Is(n, width)
 }
 
 // A number that stands from `low` up to and without `past`, or its refusal.
@@ -97,7 +97,7 @@ pub fn read_between(s: &[u8], at: usize, low: u32, past: u32, refusal: u8) -> Nu
 {
     match read_number(s, at) {
         Number::Refused(why) => Number::Refused(why),
-        Number::Is(n, size) => passed(n, size, between(low, past, refusal, n)),
+        Number::Is(n, width) => passed(n, width, between(low, past, refusal, n)),
     }
 }
 
@@ -156,12 +156,12 @@ fn read_label(
 {
     match read_number(s, at) {
         Number::Refused(why) => OnePath::Refused(why, at),
-        Number::Is(l, size) => {
+        Number::Is(l, width) => {
             if repeats(parent, label, own, p, l) {
                 return OnePath::Refused(6, at);
             }
             let x = wide_number(p);
-            OnePath::Is((p % 256) as u8, l, depth[x] + 1, at + size)
+            OnePath::Is((p % 256) as u8, l, depth[x] + 1, at + width)
         }
     }
 }
@@ -180,12 +180,12 @@ fn read_path(
 {
     match read_number(s, at) {
         Number::Refused(why) => OnePath::Refused(why, at),
-        Number::Is(p, size) => {
+        Number::Is(p, width) => {
             let why = parent_test(depth, own, p);
             if 0 < why {
                 return OnePath::Refused(why, at);
             }
-            read_label(s, at + size, own, p, parent, label, depth)
+            read_label(s, at + width, own, p, parent, label, depth)
         }
     }
 }
@@ -241,10 +241,10 @@ fn read_required(s: &[u8], at: usize, count: u32, many: u32) -> Required
             Number::Refused(why) => {
                 return Required::Refused(why, next);
             }
-            Number::Is(x, size) => {
+            Number::Is(x, width) => {
                 set = with(set, wide_number(x));
                 last = x;
-                next += size;
+                next += width;
                 left -= 1;
             }
         }
@@ -259,7 +259,7 @@ fn read_right(s: &[u8], at: usize, count: u32, kind: u8, left: u8) -> OneRule
 {
     match read_between(s, at, 0, count, 10) {
         Number::Refused(why) => OneRule::Refused(why, at),
-        Number::Is(x, size) => OneRule::Is(kind, left, (x % 256) as u8, at + size),
+        Number::Is(x, width) => OneRule::Is(kind, left, (x % 256) as u8, at + width),
     }
 }
 
@@ -270,7 +270,7 @@ fn read_left(s: &[u8], at: usize, count: u32, kind: u8) -> OneRule
 {
     match read_between(s, at, 0, count, 10) {
         Number::Refused(why) => OneRule::Refused(why, at),
-        Number::Is(x, size) => read_right(s, at + size, count, kind, (x % 256) as u8),
+        Number::Is(x, width) => read_right(s, at + width, count, kind, (x % 256) as u8),
     }
 }
 
@@ -281,7 +281,7 @@ fn read_rule(s: &[u8], at: usize, count: u32) -> OneRule
 {
     match read_between(s, at, 1, 4, 9) {
         Number::Refused(why) => OneRule::Refused(why, at),
-        Number::Is(x, size) => read_left(s, at + size, count, (x % 256) as u8),
+        Number::Is(x, width) => read_left(s, at + width, count, (x % 256) as u8),
     }
 }
 
@@ -322,7 +322,7 @@ fn read_rule_list(s: &[u8], at: usize, count: u32, many: usize) -> RuleList
     }
 }
 
-// A refused file: its number and place, and the one-path table.
+// A refused file: its number and offset, and the one-path table.
 fn refuse(why: u8, place: usize) -> Reading
     ensures { λ r. ⌜ r ≡ readingOf (refused why place) ⌝ }
 {
@@ -409,9 +409,9 @@ fn read_rule_count(
 {
     match read_between(s, at, 0, 257, 8) {
         Number::Refused(why) => refuse(why, at),
-        Number::Is(many, size) => read_to_end(
+        Number::Is(many, width) => read_to_end(
             s,
-            at + size,
+            at + width,
             wide_number(many),
             count,
             parent,
@@ -454,7 +454,7 @@ fn read_required_count(
 {
     match read_number(s, at) {
         Number::Refused(why) => refuse(why, at),
-        Number::Is(many, size) => read_required_paths(s, at + size, many, count, parent, label),
+        Number::Is(many, width) => read_required_paths(s, at + width, many, count, parent, label),
     }
 }
 
@@ -482,7 +482,7 @@ fn read_root(s: &[u8], at: usize, count: u32) -> Reading
 {
     match read_number(s, at) {
         Number::Refused(why) => refuse(why, at),
-        Number::Is(root, size) => read_table(s, at + size, count, root),
+        Number::Is(root, width) => read_table(s, at + width, count, root),
     }
 }
 
@@ -492,6 +492,6 @@ pub fn read_rules(bytes: &[u8]) -> Reading
 {
     match read_between(bytes, 0, 1, 65, 3) {
         Number::Refused(why) => refuse(why, 0),
-        Number::Is(count, size) => read_root(bytes, size, count),
+        Number::Is(count, width) => read_root(bytes, width, count),
     }
 }

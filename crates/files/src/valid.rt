@@ -5,7 +5,7 @@ ghost use mathlib.Core.List.{[]};
 ghost use lib.ListN.{getD};
 ghost use Rattle.files.specs.RuleFile.{depths};
 ghost use Rattle.files.specs.Rules.{pathsFrom, rulesFrom, padded};
-ghost use Rattle.files.specs.Writing.{passingDepth, pathsPass, ruleAt, rulePasses, rulesPass, requiredPass, pathsValid, rulesValid, tablePasses};
+ghost use Rattle.files.specs.TableTest.{passingDepth, pathsPass, ruleAt, rulePasses, rulesPass, requiredPass, pathsValid, rulesValid, tablePasses};
 use crate::number::wide;
 use crate::number::wide_number;
 use crate::number::wide32;

@@ -15,7 +15,7 @@ use crate::rules::Rules;
 use crate::sets;
 use crate::valid::valid_table;
 
-// How many bytes were written, or the refusal's number and place.
+// How many bytes were written, or the refusal's number and offset.
 pub enum Written {
     Length(usize),
     Refused(u8, usize),

@@ -11,7 +11,8 @@ use Rattle.files.specs.declared.write.Written.{Written}
 use Rattle.files.specs.Number.{limit, bytesOfAll}
 use Rattle.files.specs.Rules.{parentsIn, ValidTable}
 use Rattle.files.specs.Table.{Rule}
-use Rattle.files.specs.Writing.{tablePasses, put, wrapped, Puts}
+use Rattle.files.specs.TableTest.{tablePasses}
+use Rattle.files.specs.Writing.{put, wrapped, Puts}
 use Rattle.files.proofs.TableTests.{passes-valid}
 use Rattle.reasoning.specs.declared.consistency.Verdict.{Verdict}
 use Rattle.reasoning.specs.declared.question.Reply.{Reply}

@@ -12,7 +12,8 @@ use Rattle.files.specs.declared.write.Written.{Written}
 use Rattle.files.specs.declared.write.Written.the-variants.{Refused}
 use Rattle.files.specs.Number.{bytesOfAll}
 use Rattle.files.specs.Rules.{rulesOf, parentsIn, ValidTable}
-use Rattle.files.specs.Writing.{tablePasses, put, wrapped, Puts}
+use Rattle.files.specs.TableTest.{tablePasses}
+use Rattle.files.specs.Writing.{put, wrapped, Puts}
 use Rattle.files.specs.Sets.{withPath}
 use Rattle.files.proofs.TableTests.{passes-valid}
 use Rattle.reasoning.specs.declared.consistency.Verdict.{Verdict}

@@ -10,7 +10,8 @@ use lib.ListN.{length, take}
 use Rattle.files.specs.declared.rules.Rules.{Rules}
 use Rattle.files.specs.Number.{bytesOfAll}
 use Rattle.files.specs.Rules.{rulesOf, ValidTable}
-use Rattle.files.specs.Writing.{tablePasses, put}
+use Rattle.files.specs.TableTest.{tablePasses}
+use Rattle.files.specs.Writing.{put}
 use Rattle.files.proofs.TableTests.{passes-valid}
 use Rattle.reasoning.specs.declared.consistency.Verdict.{Verdict}
 use Rattle.documents.specs.Judgement.{parentsOf}

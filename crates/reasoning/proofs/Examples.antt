@@ -7,7 +7,8 @@ use Rattle.files.specs.Reading.{readingOf, readAnswer}
 use Rattle.files.specs.RuleFile.{between, deeper, depths, parentTest, sameChild, repeats, labelTest, ruleFile}
 use Rattle.files.specs.Rules.{pathsFrom, rulesFrom, padded, rulesOf, addAll, tableOf, noRules}
 use Rattle.files.specs.Sets.{belowAll}
-use Rattle.files.specs.Writing.{pathPasses, pathsPass, rulePasses, rulesPass, requiredPass, tablePasses, put}
+use Rattle.files.specs.TableTest.{pathPasses, pathsPass, rulePasses, rulesPass, requiredPass, pathsValid, rulesValid, tablePasses}
+use Rattle.files.specs.Writing.{put}
 use Rattle.theory.proofs.Computing.{computing}
 use Rattle.reasoning.specs.Calls.{answerOf, answered, documentBytes, inconsistentBytes, evidenceBytes, consistencyAnswer, askable, askAnswer}
 use Rattle.reasoning.specs.Examples.{verdictTold, replyTold, readTold, answerTo, Example, examples}
@@ -15,7 +16,7 @@ use Rattle.reasoning.specs.Examples.{verdictTold, replyTold, readTold, a
 -- every example has its answer
 pub examples-hold : map (λ (e : Example). answerTo (e .question)) examples ≡ map (λ (e : Example). e .answer) examples
 unfolding answerTo verdictTold replyTold readTold consistencyAnswer askAnswer askable answered answerOf documentBytes inconsistentBytes evidenceBytes
-    put tablePasses pathsPass pathPasses rulesPass rulePasses requiredPass belowAll tableOf padded addAll rulesOf pathsFrom rulesFrom noRules
+    put tablePasses pathsValid rulesValid pathsPass pathPasses rulesPass rulePasses requiredPass belowAll tableOf padded addAll rulesOf pathsFrom rulesFrom noRules
     readAnswer readingOf runAll run atEnd onNumber onTest numberIn secondIn twoBytes ruleFile between deeper depths parentTest sameChild
     repeats labelTest computing
 examples-hold = refl

@@ -13,7 +13,8 @@ use Rattle.files.specs.declared.rules.Rules.{Rules}
 use Rattle.files.specs.Number.{bytesOfAll}
 use Rattle.files.specs.Rules.{ValidTable}
 use Rattle.files.specs.Table.{Rule}
-use Rattle.files.specs.Writing.{tablePasses, put}
+use Rattle.files.specs.TableTest.{tablePasses}
+use Rattle.files.specs.Writing.{put}
 use Rattle.files.proofs.TableTests.{passes-valid}
 use Rattle.documents.specs.Tree.{Forest}
 use Rattle.reasoning.specs.declared.question.Reply.{Reply}

@@ -14,7 +14,8 @@ use Rattle.files.specs.Number.{bytesOfAll}
 use Rattle.files.specs.Rules.{rulesOf, ValidTable}
 use Rattle.files.specs.Sets.{withPath}
 use Rattle.files.specs.Table.{Rule}
-use Rattle.files.specs.Writing.{tablePasses, Put, put}
+use Rattle.files.specs.TableTest.{tablePasses}
+use Rattle.files.specs.Writing.{Put, put}
 use Rattle.documents.specs.Judgement.{parentsOf}
 use Rattle.documents.specs.Tree.{Forest, Document}
 use Rattle.documents.specs.Obey.{ObeysRule, Obeys}

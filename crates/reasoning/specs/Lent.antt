@@ -5,7 +5,7 @@ use mathlib.Core.Bool.{true, false}
 use mathlib.Core.List.{List}
 use Rattle.files.specs.declared.rules.Rules.{Rules}
 use Rattle.files.specs.Rules.{parentsIn}
-use Rattle.files.specs.Writing.{tablePasses}
+use Rattle.files.specs.TableTest.{tablePasses}
 use Rattle.reachable.specs.Arrays.{parentOf, ruleList}
 use Rattle.reasoning.specs.Calls.{askedOf, askable}
 use Rattle.theory.specs.Decide.{clashing}

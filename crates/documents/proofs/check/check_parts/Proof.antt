@@ -20,8 +20,8 @@ read-document-requires c κs = search needs
 enum-known-why : tie.Need-enum-known-why
 enum-known-why c = search needs
 
-enum-known-count : tie.Need-enum-known-count
-enum-known-count c = search needs
+enum-known-parts : tie.Need-enum-known-parts
+enum-known-parts c = search needs
 
 judge-requires : tie.Need-judge-requires
 judge-requires c κs =
@@ -43,7 +43,7 @@ check-parts-spec =
     cast-read-document
     read-document-requires
     enum-known-why
-    enum-known-count
+    enum-known-parts
     judge-requires
     returns
     returns-2)

@@ -10,8 +10,8 @@ read-between-requires c κs = search needs
 enum-known-why : tie.Need-enum-known-why
 enum-known-why c = search needs
 
-enum-known-size : tie.Need-enum-known-size
-enum-known-size c = search needs
+enum-known-parts : tie.Need-enum-known-parts
+enum-known-parts c = search needs
 
 wide-number-requires : tie.Need-wide-number-requires
 wide-number-requires c κs = search needs
@@ -34,7 +34,7 @@ read-document-spec =
     (tie.spec
     read-between-requires
     enum-known-why
-    enum-known-size
+    enum-known-parts
     wide-number-requires
     read-parts-requires
     to-end-requires

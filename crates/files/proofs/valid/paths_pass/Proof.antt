@@ -7,7 +7,7 @@ use mathlib.Core.Path.{_≡_}
 use mathlib.Core.List.{[]}
 use Rattle.files.specs.RuleFile.{depths}
 use Rattle.files.specs.Rules.{pathsFrom, padded}
-use Rattle.files.specs.Writing.{pathsPass}
+use Rattle.files.specs.TableTest.{pathsPass}
 use Rattle.files.proofs.Tester.{pass-laws}
 
 abbrev Inv-loop : tie.InvT-loop

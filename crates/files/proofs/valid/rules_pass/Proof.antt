@@ -5,7 +5,7 @@ use borrow.Author.Needs.{needs}
 use Prim.Native.Nat.{_-_, _≤_}
 use mathlib.Core.Path.{_≡_}
 use Rattle.files.specs.Rules.{rulesFrom}
-use Rattle.files.specs.Writing.{rulesPass}
+use Rattle.files.specs.TableTest.{rulesPass}
 use Rattle.files.proofs.Tester.{all-laws}
 
 abbrev Inv-loop : tie.InvT-loop
