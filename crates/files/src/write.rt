@@ -106,18 +106,18 @@ fn collect_rules(
     kind: &[u8; 256],
     left: &[u8; 256],
     right: &[u8; 256],
-    count: usize,
+    many: usize,
     start: usize,
     numbers: &mut [u32; 1024],
 ) -> usize
-    requires { ⌜ (count ≤ 256) × (start ≤ 193) ⌝ }
-    ensures { λ r. ⌜ (r ≡ start + 1 + 3 * count)
-        × (now (numbers .exit) ≡ sets (now (numbers .entry)) start (ruleSection (now (kind .entry)) (now (left .entry)) (now (right .entry)) count)) ⌝ }
+    requires { ⌜ (many ≤ 256) × (start ≤ 193) ⌝ }
+    ensures { λ r. ⌜ (r ≡ start + 1 + 3 * many)
+        × (now (numbers .exit) ≡ sets (now (numbers .entry)) start (ruleSection (now (kind .entry)) (now (left .entry)) (now (right .entry)) many)) ⌝ }
 {
-    numbers[start] = count as u32;
+    numbers[start] = many as u32;
     let mut at = start + 1;
     let mut x = 0usize;
-    while x < count {
+    while x < many {
         numbers[at] = wide32(kind[x]);
         numbers[at + 1] = wide32(left[x]);
         numbers[at + 2] = wide32(right[x]);

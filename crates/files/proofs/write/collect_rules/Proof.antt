@@ -10,13 +10,13 @@ use Rattle.files.specs.Rules.{rulesFrom}
 use Rattle.files.proofs.Collect.{rules-laws}
 
 abbrev Inv-loop : tie.InvT-loop
-Inv-loop kind left right count start numbers₀ at₀ x₀ numbers at x =
-    (x ≤ count)
+Inv-loop kind left right many start numbers₀ at₀ x₀ numbers at x =
+    (x ≤ many)
     × (at ≡ start + 1 + 3 * x)
-    × (sets numbers at (ruleNumbers (rulesFrom kind left right x (count - x))) ≡ sets numbers₀ (start + 1) (ruleNumbers (rulesFrom kind left right 0 count)))
+    × (sets numbers at (ruleNumbers (rulesFrom kind left right x (many - x))) ≡ sets numbers₀ (start + 1) (ruleNumbers (rulesFrom kind left right 0 many)))
 
 abbrev μ-loop : tie.MeasureT-loop
-μ-loop kind left right count start numbers₀ at₀ x₀ numbers at x = count - x
+μ-loop kind left right many start numbers₀ at₀ x₀ numbers at x = many - x
 
 cast-numbers : tie.Need-cast-numbers Inv-loop μ-loop
 cast-numbers c = search (needs, rules-laws)
