@@ -2,6 +2,7 @@
 pub mod Asking
 pub mod CallLaws
 pub mod Calling
+pub mod Checked
 pub mod ConsistencyJoins
 pub mod Examples
 pub mod Meaning

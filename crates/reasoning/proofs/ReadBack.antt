@@ -1,16 +1,17 @@
 -- The document that a call hands back over a valid table: its bytes are read back as a list of parts that stands for a tree, and
 -- they are at most 65,536; the bytes of evidence are at most 784.
 use Prim.Native.Nat.{ℕ, _*_, _≤_}
-use mathlib.Core.Path.{_≡_, refl, sym, ap, _∙_}
+use mathlib.Core.Path.{_≡_, refl, sym, ap, subst, _∙_}
 use mathlib.Core.List.{List}
 use native.Mathlib.Omega.{arith}
 use lib.ListN.{length}
 use Rattle.files.specs.declared.rules.Rules.{Rules}
+use Rattle.files.specs.Format.{got, runAll}
 use Rattle.files.specs.Number.{bytesOfAll}
 use Rattle.files.specs.Rules.{ValidTable}
 use Rattle.files.proofs.FileSizes.{bytesIn}
 use Rattle.documents.specs.Tree.{Forest}
-use Rattle.documents.specs.PartList.{Entry, documentNumbers, StandsFor}
+use Rattle.documents.specs.PartList.{Entry, documentFile, documentNumbers, ValidParts, StandsFor}
 use Rattle.documents.proofs.ValidLists.{valid-read}
 use Rattle.documents.proofs.CheckingJoins.{few-paths, below-64}
 use Rattle.documents.specs.Judgement.{parentsOf}
@@ -59,6 +60,19 @@ module _ (t : Rules) (v : ValidTable t) {goals : List ℕ} {start : Start} (begi
       (document-only (table-fits t v) (table-shallow t v) begins (d .written)
       ∙ sym (document-only (table-fits t v) (table-shallow t v) begins (e .written)))
       ∙ sym (e .are)
+
+  -- its parts break no condition of 01
+  pub document-valid : {bytes : List ℕ} (d : IsDocument t goals bytes) → ValidParts (parentsOf t) (t .paths) (d .parts)
+  document-valid d =
+      subst (ValidParts (parentsOf t) (t .paths)) (sym (document-only (table-fits t v) (table-shallow t v) begins (d .written)))
+      (document-part-list (table-fits t v) (table-shallow t v) begins)
+
+  -- and are what the reader of documents reads
+  pub document-read : {bytes : List ℕ} (d : IsDocument t goals bytes)
+      → runAll (documentFile (parentsOf t) (t .paths)) bytes ≡ got (d .parts) (length bytes)
+  document-read d =
+      subst (λ (s : List ℕ). runAll (documentFile (parentsOf t) (t .paths)) s ≡ got (d .parts) (length s)) (sym (d .are))
+      (valid-read (parentsOf t) (t .paths) (v .some) (few-paths t v) (below-64 t v) (d .parts) (document-valid d))
 
   -- a document takes at most 65,536 bytes
   pub document-room : length (documentBytes t start) ≤ 65536
