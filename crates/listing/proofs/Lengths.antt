@@ -13,8 +13,9 @@ use Rattle.files.proofs.Numbers.{bytes-long}
 use Rattle.files.proofs.FileSizes.{bytesIn, bytes-none, bytes-more, bytes-append, number-short}
 use Rattle.documents.specs.PartList.{Entry, entryPath, partNumbers, documentNumbers}
 use Rattle.listing.specs.Text.{digitsBefore, digits, spaced, feed}
-use Rattle.listing.specs.Lay.{consistent, inconsistent, inconsistentText, partsText, consistentText}
+use Rattle.listing.specs.Lay.{consistent, inconsistent, refusedWord, refusedText, inconsistentText, partsText, consistentText}
 use Rattle.listing.proofs.Digits.{before-none}
+use Rattle.listing.proofs.Puts.{digits-few}
 
 -- every number is one of a file
 abbrev pub Small : List ℕ → Type 0
@@ -116,3 +117,17 @@ document-length es small few paths =
 pub evidence-length : (ns : List ℕ) → Small ns → length (inconsistentText ns) ≤ 4 * length (bytesOfAll ns) + 16
 unfolding inconsistentText inconsistent feed bytesIn
 evidence-length ns small = omega (arith, length-append (spaced ns) (10 ∷ []), numbers-length ns small)
+
+-- the line of a refusal
+pub refused-length : (k at : ℕ) → length (refusedText k at) ≤ 64
+unfolding refusedText refusedWord feed
+refused-length k at =
+    omega (
+      arith,
+      length-append (spaced (k ∷ at ∷ [])) (10 ∷ []),
+      spaced-more k (at ∷ []),
+      spaced-more at [],
+      spaced-none,
+      digits-few k,
+      digits-few at,
+    )

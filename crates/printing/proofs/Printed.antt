@@ -12,11 +12,12 @@ use Rattle.files.specs.Rules.{ValidTable}
 use Rattle.files.proofs.TableStructs.{table-valid}
 use Rattle.listing.specs.Text.{Stored}
 use Rattle.listing.specs.Lay.{refusedText, LaysRefusal}
+use Rattle.listing.proofs.Lengths.{refused-length}
 use Rattle.printing.specs.Printing.{TEXT, rulesText, answerText, printedText, SaysOf, Says, refuses, accepts, RulesToPrint, PrintsRules, Prints}
 
 -- there is less room than a text may take
 pub prints-short : (file out : List ℕ) → length out < TEXT → Prints file out 0 out
-prints-short file out h = record { short = λ _. (refl, refl); printed = λ room. absurd (omega arith); says = λ room. absurd (omega arith) }
+prints-short file out h = record { short = λ _. (refl, refl); printed = λ room. absurd (omega arith); within = omega arith; says = λ room. absurd (omega arith) }
 
 module _ (file : List ℕ) (r : Reading) (h : ReadRules file r) where
   text-is : printedText file ≡ answerText (r .answer) (r .rules)
@@ -37,6 +38,7 @@ module _ (file : List ℕ) (r : Reading) (h : ReadRules file r) where
         record {
           short = λ s. absurd (omega arith);
           printed = λ _. subst (λ (text : List ℕ). Stored text out 0 after n) (sym refused-text) (l .fits (omega arith));
+          within = omega (arith, l .fits (omega arith) .next, refused-length k at);
           says = λ _. refused-says;
         }
 
@@ -63,5 +65,6 @@ module _ (file : List ℕ) (r : Reading) (h : ReadRules file r) where
         record {
           short = λ s. absurd (omega arith);
           printed = λ _. subst (λ (text : List ℕ). Stored text out 0 after n) (sym accepted-text) (p .stored);
+          within = omega (arith, p .stored .next, p .most);
           says = λ _. accepted-says (p .says);
         }

@@ -28,14 +28,14 @@ use Rattle.theory.proofs.Writes.{inconsistent-written}
 use Rattle.listing.specs.declared.lay.Stage.{Stage}
 use Rattle.listing.specs.Text.{Stored}
 use Rattle.listing.specs.Lay.{inconsistentText, consistentText, evidenceStart, lays}
-use Rattle.listing.proofs.Lengths.{Small}
+use Rattle.listing.proofs.Lengths.{Small, document-length, evidence-length}
 use Rattle.listing.proofs.Whole.{whole-document, whole-evidence}
 use Rattle.reasoning.specs.declared.consistency.Verdict.{Verdict}
 use Rattle.reasoning.specs.Calls.{ruleListOf, askedOf, documentBytes, inconsistentBytes, consistencyAnswer, HandsBack}
 use Rattle.reasoning.proofs.ConsistencyJoins.{consistency-agrees, consistency-conflicts}
 use Rattle.reasoning.proofs.Placed.{Placed, fills, tooLong, placed-at}
 use Rattle.reasoning.proofs.ValidFits.{table-fits, asked-in}
-use Rattle.printing.specs.Printing.{DOCUMENT, partsListing, verdictText, rulesText, Witness, Conflict, SaysOf, lists, shows, laidText, Decided, PrintsRules}
+use Rattle.printing.specs.Printing.{DOCUMENT, TEXT, partsListing, verdictText, rulesText, Witness, Conflict, SaysOf, lists, shows, laidText, Decided, PrintsRules}
 
 -- how a verdict comes about: the table fails its test, or a document or evidence is put into the buffer
 data Came (t : Rules) (out : List ℕ) (v : Verdict) (after : List ℕ) : Type 0 where
@@ -133,20 +133,30 @@ module _ (t : Rules) (word : t .required < 2 ^ 64) (v : Verdict) (bytes out : Li
       document-says =
           text-is ∙ ap (λ (r : Verdict). verdictText t r bytes) e ∙ ap partsListing (hands .read)
 
+      small : Small (documentNumbers (hands .parts))
+      small = leads-small (valid-leads (parentsOf t) (t .paths) (valid .some) (few-paths t valid) (below-64 t valid) (hands .parts) (read .0))
+
+      paths : (i : ℕ) → i < length (hands .parts) → entryPath (hands .parts) i < 100
+      paths i l = omega (arith, read .0 .inside i l, few-paths t valid)
+
+      few : length (bytesOfAll (documentNumbers (hands .parts))) ≤ DOCUMENT
+      few = omega (arith, length-take n bytes, h .all, ap length (read .1))
+
       document-laid : laidText (take n bytes) Stage.Count out ≡ consistentText (hands .parts)
       document-laid =
-          let small : Small (documentNumbers (hands .parts)) =
-          leads-small (valid-leads (parentsOf t) (t .paths) (valid .some) (few-paths t valid) (below-64 t valid) (hands .parts) (read .0)) in
-          let few : 4 * length (bytesOfAll (documentNumbers (hands .parts))) + 64 ≤ length out =
-          omega (arith, length-take n bytes, h .all, ap length (read .1), h .table .room) in
           subst (λ (s : List ℕ). laidText s Stage.Count out ≡ consistentText (hands .parts)) (sym (read .1))
-          (whole-document (hands .parts) small (omega (arith, read .0 .most)) (λ i l. omega (arith, read .0 .inside i l, few-paths t valid)) (length out) few)
+          (whole-document (hands .parts) small (omega (arith, read .0 .most)) paths (length out) (omega (arith, few, h .table .room)))
+
+      document-most : length (rulesText t) ≤ TEXT
+      document-most =
+          omega (arith, ap length document-says, document-length (hands .parts) small (omega (arith, read .0 .most)) paths, few)
 
       -- a document's listing is laid out, and it is a witness's
       pub document-printed : (after : List ℕ) (r : ℕ) → Stored (laidText (take n bytes) Stage.Count out) out 0 after r → PrintsRules t out r after
       document-printed after r s =
           record {
             stored = subst (λ (l : List ℕ). Stored l out 0 after r) (document-laid ∙ sym document-says) s;
+            most = document-most;
             says = lists (hands .parts)
                 (record { valid = read .0; tree = hands .tree; stands = hands .stands; witnesses = hands .good }) document-says;
           }
@@ -186,14 +196,20 @@ module _ (t : Rules) (word : t .required < 2 ^ 64) (v : Verdict) (bytes out : Li
     unfolding verdictText
     evidence-says = text-is ∙ ap (λ (r : Verdict). verdictText t r bytes) e
 
-    evidence-laid : laidText (take n bytes) Stage.First out ≡ inconsistentText numbers
+    bytes-are : take n bytes ≡ bytesOfAll numbers
     unfolding inconsistentBytes
+    bytes-are = evidence-put .2
+
+    few-bytes : length (bytesOfAll numbers) ≤ DOCUMENT
+    few-bytes = omega (arith, length-take n bytes, h .all, ap length bytes-are)
+
+    small-numbers : Small numbers
+    small-numbers k m = omega (arith, inconsistent-bounded (table-fits t valid) (asked-in t word valid) written .small k m)
+
+    evidence-laid : laidText (take n bytes) Stage.First out ≡ inconsistentText numbers
     evidence-laid =
-        let same : take n bytes ≡ bytesOfAll numbers = evidence-put .2 in
-        let few : 4 * length (bytesOfAll numbers) + 64 ≤ length out =
-        omega (arith, length-take n bytes, h .all, ap length same, h .table .room) in
-        subst (λ (s : List ℕ). laidText s Stage.First out ≡ inconsistentText numbers) (sym same)
-        (by numbers shown (λ k m. omega (arith, inconsistent-bounded (table-fits t valid) (asked-in t word valid) written .small k m)) few)
+        subst (λ (s : List ℕ). laidText s Stage.First out ≡ inconsistentText numbers) (sym bytes-are)
+        (by numbers shown small-numbers (omega (arith, few-bytes, h .table .room)))
       where
         by : (ns : List ℕ) → ShowsInconsistent (parentsOf t) (ruleListOf t) (askedOf t) ns → Small ns → 4 * length (bytesOfAll ns) + 64 ≤ length out
             → laidText (bytesOfAll ns) Stage.First out ≡ inconsistentText ns
@@ -205,5 +221,6 @@ module _ (t : Rules) (word : t .required < 2 ^ 64) (v : Verdict) (bytes out : Li
     evidence-printed after r s =
         record {
           stored = subst (λ (l : List ℕ). Stored l out 0 after r) (evidence-laid ∙ sym evidence-says) s;
+          most = omega (arith, ap length evidence-says, evidence-length numbers small-numbers, few-bytes);
           says = shows numbers (record { shown = shown; never = h .decides .inconsistent n e .0 }) evidence-says;
         }

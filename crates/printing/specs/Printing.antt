@@ -87,6 +87,7 @@ pub record Prints (file out : List ℕ) (r : ℕ) (after : List ℕ) : Type 0 wh
   pub short : length out < TEXT → (r ≡ 0) × (after ≡ out)
   -- else the text fills the start, its length is returned and later bytes are unchanged
   pub printed : TEXT ≤ length out → Stored (printedText file) out 0 after r
+  pub within : r ≤ length out
   -- and says what the file is
   pub says : TEXT ≤ length out → Says file (printedText file)
 
@@ -110,4 +111,5 @@ pub record Decided (t : Rules) (v : Verdict) (bytes out : List ℕ) : Type 0 whe
 -- the text of a table was laid out, and what it says
 pub record PrintsRules (t : Rules) (out : List ℕ) (r : ℕ) (after : List ℕ) : Type 0 where
   pub stored : Stored (rulesText t) out 0 after r
+  pub most : length (rulesText t) ≤ TEXT
   pub says : SaysOf t (rulesText t)
