@@ -13,6 +13,7 @@ use Rattle.files.proofs.TableStructs.{table-valid}
 use Rattle.listing.specs.Text.{Stored}
 use Rattle.listing.specs.Lay.{refusedText, LaysRefusal}
 use Rattle.listing.proofs.Lengths.{refused-length}
+use Rattle.listing.proofs.Puts.{stored-length}
 use Rattle.printing.specs.Printing.{TEXT, rulesText, answerText, printedText, SaysOf, Says, refuses, accepts, RulesToPrint, PrintsRules, Prints}
 
 -- there is less room than a text may take
@@ -38,7 +39,9 @@ module _ (file : List ℕ) (r : Reading) (h : ReadRules file r) where
         record {
           short = λ s. absurd (omega arith);
           printed = λ _. subst (λ (text : List ℕ). Stored text out 0 after n) (sym refused-text) (l .fits (omega arith));
-          within = omega (arith, l .fits (omega arith) .next, refused-length k at);
+          within =
+              let s = l .fits (omega arith) in
+              omega (arith, s .next, refused-length k at, stored-length (refusedText k at) out 0 after n s);
           says = λ _. refused-says;
         }
 
@@ -65,6 +68,6 @@ module _ (file : List ℕ) (r : Reading) (h : ReadRules file r) where
         record {
           short = λ s. absurd (omega arith);
           printed = λ _. subst (λ (text : List ℕ). Stored text out 0 after n) (sym accepted-text) (p .stored);
-          within = omega (arith, p .stored .next, p .most);
+          within = omega (arith, p .stored .next, p .most, stored-length (rulesText (r .rules)) out 0 after n (p .stored));
           says = λ _. accepted-says (p .says);
         }

@@ -87,7 +87,7 @@ pub record Prints (file out : List ℕ) (r : ℕ) (after : List ℕ) : Type 0 wh
   pub short : length out < TEXT → (r ≡ 0) × (after ≡ out)
   -- else the text fills the start, its length is returned and later bytes are unchanged
   pub printed : TEXT ≤ length out → Stored (printedText file) out 0 after r
-  pub within : r ≤ length out
+  pub within : r ≤ length after
   -- and says what the file is
   pub says : TEXT ≤ length out → Says file (printedText file)
 
