@@ -62,15 +62,13 @@ inconsistentLine =
     105 ∷ 110 ∷ 99 ∷ 111 ∷ 110 ∷ 115 ∷ 105 ∷ 115 ∷ 116 ∷ 101 ∷ 110 ∷ 116 ∷ 32 ∷ 51 ∷ 32 ∷ 50 ∷ 32 ∷ 52 ∷ 32 ∷ 48 ∷ 32 ∷ 48 ∷
     32 ∷ 48 ∷ 32 ∷ 48 ∷ 10 ∷ []
 
--- three paths, and path 2 has parent 2
+-- four paths, and path 3 has parent 3
 abbrev refusedFile : List ℕ
-refusedFile =
-    3 ∷ 10 ∷ 0 ∷ 11 ∷ 2 ∷ 12 ∷ 0 ∷ 0 ∷ []
+refusedFile = 4 ∷ 10 ∷ 0 ∷ 11 ∷ 1 ∷ 12 ∷ 3 ∷ 13 ∷ 0 ∷ 0 ∷ []
 
--- `refused 4 4` and a line feed
+-- `refused 4 6` and a line feed
 abbrev refusedLine : List ℕ
-refusedLine =
-    114 ∷ 101 ∷ 102 ∷ 117 ∷ 115 ∷ 101 ∷ 100 ∷ 32 ∷ 52 ∷ 32 ∷ 52 ∷ 10 ∷ []
+refusedLine = 114 ∷ 101 ∷ 102 ∷ 117 ∷ 115 ∷ 101 ∷ 100 ∷ 32 ∷ 52 ∷ 32 ∷ 54 ∷ 10 ∷ []
 
 -- the listing of 01
 pub listing-printed : printedText listingFile ≡ listingText
