@@ -25,8 +25,6 @@ use Rattle.listing.specs.Lay.{
   textFrom,
   documentStart,
   evidenceStart,
-  laysNone,
-  laysMore,
   laysNumber,
   textAt,
   afterAt,
@@ -104,8 +102,8 @@ last-is pre x (y ∷ ns) at e =
 
 -- with room for the text of the numbers and 48 bytes more, all of them are laid out
 lays-all : (ns : List ℕ) (most : ℕ) (pre : List ℕ) (room : ℕ) (p : Place) → Small ns → p .at ≡ length (bytesOfAll pre) → length ns ≤ most
-    → length (textFrom p ns) + 48 ≤ room → lays most (bytesOfAll (pre ++ ns)) room p .text ≡ textFrom p ns
-unfolding lays laysNone laysMore laysNumber textAt afterAt textFrom bytesOfAll
+    → length (textFrom p ns) + 48 ≤ room → lays most (bytesOfAll (pre ++ ns)) room p ≡ textFrom p ns
+unfolding lays laysNumber textAt afterAt textFrom bytesOfAll
 lays-all [] zero pre room p small e few h = refl
 lays-all [] (suc most) pre room p small e few h =
     let none : numberIn (drop (p .at) (bytesOfAll (pre ++ []))) ≡ Refused 1 = ap numberIn (from-place pre [] (p .at) e) ∙ in-cut before in
@@ -125,8 +123,8 @@ lays-all (x ∷ ns) (suc most) pre room p small e few h =
     text-same q (placeAfter (p .stage) 0 (p .part) (p .left) x) ns (after .stage) (after .part) (after .left) in
     let long : length (textFrom p (x ∷ ns)) ≡ length t + length (textFrom q ns) =
     length-append t _ ∙ ap (λ (l : List ℕ). length t + length l) (sym same) in
-    let rest : lays most s (room - length t) q .text ≡ textFrom q ns =
-    subst (λ (l : List ℕ). lays most (bytesOfAll l) (room - length t) q .text ≡ textFrom q ns) (append-assoc pre (x ∷ []) ns)
+    let rest : lays most s (room - length t) q ≡ textFrom q ns =
+    subst (λ (l : List ℕ). lays most (bytesOfAll l) (room - length t) q ≡ textFrom q ns) (append-assoc pre (x ∷ []) ns)
     (lays-all ns most (pre ++ (x ∷ [])) (room - length t) q (λ n m. small n (List·Memᴰ·tail m))
     (after-at (p .stage) (p .at + size) (p .part) (p .left) x ∙ next) (omega arith) (omega (arith, h, long))) in
     rw (le-leb 48 room (omega arith), is, last) (ap (λ (l : List ℕ). t ++ l) (rest ∙ same))
@@ -140,7 +138,7 @@ numbers-few (x ∷ ns) = omega (arith, length-append (bytesOf x) (bytesOfAll ns)
 -- a document of so many bytes is laid out as its listing by one call, in a block of four times as many and 64
 pub whole-document : (es : List Entry) → Small (documentNumbers es) → length es ≤ 8192 → ((i : ℕ) → i < length es → entryPath es i < 100)
     → (room : ℕ) → 4 * length (bytesOfAll (documentNumbers es)) + 64 ≤ room
-    → lays (length (bytesOfAll (documentNumbers es))) (bytesOfAll (documentNumbers es)) room documentStart .text ≡ consistentText es
+    → lays (length (bytesOfAll (documentNumbers es))) (bytesOfAll (documentNumbers es)) room documentStart ≡ consistentText es
 unfolding bytesOfAll
 whole-document es small few paths room h =
     let is : textFrom documentStart (documentNumbers es) ≡ consistentText es = document-text es (omega arith) in
@@ -149,7 +147,7 @@ whole-document es small few paths room h =
 
 -- so are the numbers of evidence as their line
 pub whole-evidence : (n : ℕ) (ns : List ℕ) → Small (n ∷ ns) → (room : ℕ) → 4 * length (bytesOfAll (n ∷ ns)) + 64 ≤ room
-    → lays (length (bytesOfAll (n ∷ ns))) (bytesOfAll (n ∷ ns)) room evidenceStart .text ≡ inconsistentText (n ∷ ns)
+    → lays (length (bytesOfAll (n ∷ ns))) (bytesOfAll (n ∷ ns)) room evidenceStart ≡ inconsistentText (n ∷ ns)
 unfolding bytesOfAll
 whole-evidence n ns small room h =
     let is : textFrom evidenceStart (n ∷ ns) ≡ inconsistentText (n ∷ ns) = evidence-text n ns in

@@ -27,7 +27,7 @@ use Rattle.theory.proofs.Shows.{inconsistent-shows}
 use Rattle.theory.proofs.Writes.{inconsistent-written}
 use Rattle.listing.specs.declared.lay.Stage.{Stage}
 use Rattle.listing.specs.Text.{Stored}
-use Rattle.listing.specs.Lay.{inconsistentText, consistentText, evidenceStart, lays}
+use Rattle.listing.specs.Lay.{inconsistentText, consistentText, laidText}
 use Rattle.listing.proofs.Lengths.{Small, document-length, evidence-length}
 use Rattle.listing.proofs.Whole.{whole-document, whole-evidence}
 use Rattle.reasoning.specs.declared.consistency.Verdict.{Verdict}
@@ -35,7 +35,7 @@ use Rattle.reasoning.specs.Calls.{ruleListOf, askedOf, documentBytes, inconsist
 use Rattle.reasoning.proofs.ConsistencyJoins.{consistency-agrees, consistency-conflicts}
 use Rattle.reasoning.proofs.Placed.{Placed, fills, tooLong, placed-at}
 use Rattle.reasoning.proofs.ValidFits.{table-fits, asked-in}
-use Rattle.printing.specs.Printing.{DOCUMENT, TEXT, partsListing, verdictText, rulesText, Witness, Conflict, SaysOf, lists, shows, laidText, Decided, PrintsRules}
+use Rattle.printing.specs.Printing.{DOCUMENT, TEXT, partsListing, verdictText, rulesText, Witness, Conflict, SaysOf, lists, shows, Decided, PrintsRules}
 
 -- how a verdict comes about: the table fails its test, or a document or evidence is put into the buffer
 data Came (t : Rules) (out : List ℕ) (v : Verdict) (after : List ℕ) : Type 0 where

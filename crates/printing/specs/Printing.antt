@@ -16,9 +16,8 @@ use Rattle.documents.specs.PartList.{Entry, documentFile, ValidParts, StandsFor
 use Rattle.documents.specs.Tree.{Forest}
 use Rattle.theory.specs.Evidence.{inconsistentNumbers, ShowsInconsistent}
 use Rattle.theory.specs.Follows.{Witnesses, Consistent}
-use Rattle.listing.specs.declared.lay.Stage.{Stage}
 use Rattle.listing.specs.Text.{Stored}
-use Rattle.listing.specs.Lay.{refusedText, inconsistentText, consistentText, lays}
+use Rattle.listing.specs.Lay.{refusedText, inconsistentText, consistentText}
 use Rattle.reasoning.specs.declared.consistency.Verdict.{Verdict}
 use Rattle.reasoning.specs.Calls.{ruleListOf, askedOf, consistencyAnswer, DecidesConsistency}
 
@@ -92,10 +91,6 @@ pub record Prints (file out : List ℕ) (r : ℕ) (after : List ℕ) : Type 0 wh
   pub says : TEXT ≤ length out → Says file (printedText file)
 
 -- ---- inside the crate
-
--- what one call lays out of the numbers of s, from the first on
-abbrev pub laidText : List ℕ → Stage → List ℕ → List ℕ
-laidText s stage out = lays (length s) s (length out) (record { at = 0; stage = stage; part = 0; left = 0 }) .text
 
 -- a valid table, and room for its text
 pub record RulesToPrint (t : Rules) (out : List ℕ) : Type 0 where

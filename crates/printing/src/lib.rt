@@ -1,10 +1,8 @@
 // The whole text that the verdict program prints for the bytes of a rule file.
-ghost use Rattle.listing.specs.Text.{Stored};
-ghost use Rattle.printing.specs.Printing.{laidText, Decided, RulesToPrint, PrintsRules, Prints};
+ghost use Rattle.printing.specs.Printing.{Decided, RulesToPrint, PrintsRules, Prints};
 use files::read::Answer;
 use files::read::read_rules;
 use files::rules::Rules;
-use listing::lay::Place;
 use listing::lay::Stage;
 use listing::lay::lay;
 use listing::lay::lay_refusal;
@@ -17,28 +15,14 @@ const DOCUMENT: usize = 65536;
 // No text takes more: four bytes for each of a document's, and a line.
 pub const TEXT: usize = 4 * 65536 + 64;
 
-// The numbers of a document or of evidence laid out at the start of the block, and how many bytes that took.
-fn lay_numbers(bytes: &[u8], stage: Stage, out: &mut [u8]) -> usize
-    ensures { λ r. ⌜ Stored (laidText (now (bytes .entry)) stage (now (out .entry))) (now (out .entry)) 0 (now (out .exit)) r ⌝ }
-{
-    let start = Place {
-        at: 0,
-        stage,
-        part: 0,
-        left: 0,
-    };
-    let laid = lay(bytes, start, out);
-    laid.length
-}
-
 // The text of a verdict, with the document or the evidence that it left.
 fn print_verdict(rules: Rules, verdict: Verdict, document: &[u8], out: &mut [u8]) -> usize
     requires { ⌜ Decided rules verdict (now document) (now out) ⌝ }
     ensures { λ r. ⌜ PrintsRules rules (now (out .entry)) r (now (out .exit)) ⌝ }
 {
     match verdict {
-        Verdict::Consistent(n) => lay_numbers(&document[..n], Stage::Count, out),
-        Verdict::Inconsistent(n) => lay_numbers(&document[..n], Stage::First, out),
+        Verdict::Consistent(n) => lay(&document[..n], Stage::Count, out),
+        Verdict::Inconsistent(n) => lay(&document[..n], Stage::First, out),
         Verdict::Refused(number, offset) => lay_refusal(number as u64, offset as u64, out),
     }
 }

@@ -8,20 +8,20 @@ use Rattle.printing.proofs.Verdicts.{taken-all, never-refused, document
 enum-known-verdict : tie.Need-enum-known-verdict
 enum-known-verdict c = search needs
 
-slice-aggregate-lay-numbers : tie.Need-slice-aggregate-lay-numbers
-slice-aggregate-lay-numbers c = taken-all _ _ (document-within _ (omega (arith, c .before .before .before .before .before .before .good)) _ _ _ (c .before .before .before .before .before .before .pre) _ (c .before .before .verdict .given .1))
+slice-aggregate-lay : tie.Need-slice-aggregate-lay
+slice-aggregate-lay c = taken-all _ _ (document-within _ (omega (arith, c .before .before .before .before .before .before .good)) _ _ _ (c .before .before .before .before .before .before .pre) _ (c .before .before .verdict .given .1))
 
-lay-numbers-requires : tie.Need-lay-numbers-requires
-lay-numbers-requires c κs = search needs
+lay-requires : tie.Need-lay-requires
+lay-requires c κs = search needs
 
 enum-known-verdict-2 : tie.Need-enum-known-verdict-2
 enum-known-verdict-2 c = search needs
 
-slice-aggregate-lay-numbers-2 : tie.Need-slice-aggregate-lay-numbers-2
-slice-aggregate-lay-numbers-2 c = taken-all _ _ (evidence-within _ (omega (arith, c .before .before .before .before .before .before .good)) _ _ _ (c .before .before .before .before .before .before .pre) _ (c .before .before .verdict2 .given .1))
+slice-aggregate-lay-2 : tie.Need-slice-aggregate-lay-2
+slice-aggregate-lay-2 c = taken-all _ _ (evidence-within _ (omega (arith, c .before .before .before .before .before .before .good)) _ _ _ (c .before .before .before .before .before .before .pre) _ (c .before .before .verdict2 .given .1))
 
-lay-numbers-requires-2 : tie.Need-lay-numbers-requires-2
-lay-numbers-requires-2 c κs = search needs
+lay-requires-2 : tie.Need-lay-requires-2
+lay-requires-2 c κs = search needs
 
 enum-known-verdict-3 : tie.Need-enum-known-verdict-3
 enum-known-verdict-3 c = search needs
@@ -38,13 +38,13 @@ same-length c = search needs
 returns : tie.Need-returns
 returns c =
     document-printed _ (omega (arith, c .before .before .before .before .before .before .before .before .before .before .good)) _ _ _ (c .before .before .before .before .before .before .before .before .before .before .pre) _ (c .before .before .before .before .before .before .verdict .given .1)
-    (λ i. omega (arith, c .before .before .before .before .before .before .before .before .before .shared-slice-known .given i)) _ _ (c .before .before .lay-numbers .ensures)
+    (λ i. omega (arith, c .before .before .before .before .before .before .before .before .before .shared-slice-known .given i)) _ _ (c .before .before .lay .ensures)
 
 same-length-2 : tie.Need-same-length-2
 same-length-2 c = search needs
 
 returns-2 : tie.Need-returns-2
-returns-2 c = evidence-printed _ (omega (arith, c .before .before .before .before .before .before .before .before .before .before .good)) _ _ _ (c .before .before .before .before .before .before .before .before .before .before .pre) _ (c .before .before .before .before .before .before .verdict2 .given .1) _ _ (c .before .before .lay-numbers2 .ensures)
+returns-2 c = evidence-printed _ (omega (arith, c .before .before .before .before .before .before .before .before .before .before .good)) _ _ _ (c .before .before .before .before .before .before .before .before .before .before .pre) _ (c .before .before .before .before .before .before .verdict2 .given .1) _ _ (c .before .before .lay2 .ensures)
 
 same-length-3 : tie.Need-same-length-3
 same-length-3 c = search needs
@@ -57,11 +57,11 @@ print-verdict-spec =
     tie.close
     (tie.spec
     enum-known-verdict
-    slice-aggregate-lay-numbers
-    lay-numbers-requires
+    slice-aggregate-lay
+    lay-requires
     enum-known-verdict-2
-    slice-aggregate-lay-numbers-2
-    lay-numbers-requires-2
+    slice-aggregate-lay-2
+    lay-requires-2
     enum-known-verdict-3
     cast-lay-refusal
     lay-refusal-requires
