@@ -1,12 +1,11 @@
 -- The three numbers of a call determine its answer: no two answers are told alike.
 use Prim.Native.Nat.{ℕ}
 use mathlib.Core.Path.{_≡_, refl}
-use native.Mathlib.Omega.{arith}
 use Rattle.files.specs.declared.write.Written.{Written}
 use Rattle.documents.specs.declared.check.Checked.{Checked}
 use Rattle.reasoning.specs.declared.consistency.Verdict.{Verdict}
 use Rattle.reasoning.specs.declared.question.Reply.{Reply}
-use Rattle.entry.specs.Numbers.{three, refusalNumbers, writtenNumbers, checkedNumbers, verdictNumbers, replyNumbers}
+use Rattle.entry.specs.Numbers.{refusalNumbers, writtenNumbers, checkedNumbers, verdictNumbers, replyNumbers}
 
 pub refusal-told : (k at k′ at′ : ℕ) → refusalNumbers k at ≡ refusalNumbers k′ at′ → (k ≡ k′) × (at ≡ at′)
 refusal-told k at k′ at′ e = (let z : k ≡ k′ = cc in z, let z : at ≡ at′ = cc in z)

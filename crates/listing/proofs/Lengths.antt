@@ -2,7 +2,7 @@
 use Prim.Native.Nat.{ℕ, zero, suc, _+_, _*_, _/_, _%_, _^_, _<_, _≤_}
 use mathlib.Core.Path.{_≡_, refl, ap}
 use mathlib.Core.Bool.{Bool, true, false}
-use mathlib.Core.List.{List, [], _∷_, _++_, append-nil, List·Memᴰ, List·Memᴰ·head, List·Memᴰ·tail, Memᴰ·append-left, Memᴰ·append-right}
+use mathlib.Core.List.{List, [], _∷_, _++_, List·Memᴰ, List·Memᴰ·head, List·Memᴰ·tail, Memᴰ·append-left, Memᴰ·append-right}
 use native.Mathlib.Omega.{arith}
 use native.Mathlib.Decide.{decLt}
 use native.Mathlib.Nat.{div-lt-iff-lt-mul, pow-suc}
@@ -10,7 +10,7 @@ use lib.ListN.{length, length-append}
 use lib.Dec.{eqb}
 use Rattle.files.specs.Number.{limit, bytesOf, bytesOfAll}
 use Rattle.files.proofs.Numbers.{bytes-long}
-use Rattle.files.proofs.FileSizes.{bytesIn, bytes-none, bytes-more, bytes-append, number-short}
+use Rattle.files.proofs.FileSizes.{bytesIn, bytes-more, bytes-append, number-short}
 use Rattle.documents.specs.PartList.{Entry, entryPath, partNumbers, documentNumbers}
 use Rattle.listing.specs.Text.{digitsBefore, digits, spaced, feed}
 use Rattle.listing.specs.Lay.{consistent, inconsistent, refusedWord, refusedText, inconsistentText, partsText, consistentText}

@@ -1,5 +1,5 @@
 -- From what reading a file answered to the text that is printed for it.
-use Prim.Native.Nat.{ℕ, _^_, _≤_, _<_}
+use Prim.Native.Nat.{ℕ, _≤_, _<_}
 use mathlib.Core.Path.{_≡_, refl, sym, ap, subst, _∙_}
 use mathlib.Core.List.{List}
 use native.Mathlib.Omega.{arith}
@@ -7,7 +7,7 @@ use lib.ListN.{length}
 use Rattle.files.specs.declared.read.Answer.{Answer}
 use Rattle.files.specs.declared.read.Reading.{Reading}
 use Rattle.files.specs.declared.rules.Rules.{Rules}
-use Rattle.files.specs.Reading.{readAnswer, AcceptedFile, ReadRules}
+use Rattle.files.specs.Reading.{ReadRules}
 use Rattle.files.specs.Rules.{ValidTable}
 use Rattle.files.proofs.TableStructs.{table-valid}
 use Rattle.listing.specs.Text.{Stored}

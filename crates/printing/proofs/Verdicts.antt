@@ -11,12 +11,12 @@ use lib.ListN.{length, take, replicate, getD, length-take, length-replicate, Lis
 use lib.Seq.{getD-take}
 use Rattle.files.specs.declared.rules.Rules.{Rules}
 use Rattle.files.specs.Format.{Format, Leads}
-use Rattle.files.specs.Number.{Bytes, limit, bytesOfAll}
+use Rattle.files.specs.Number.{Bytes, bytesOfAll}
 use Rattle.files.specs.Rules.{rulesOf, ValidTable}
 use Rattle.files.specs.Writing.{tablePasses}
 use Rattle.files.proofs.TableTests.{passes-valid}
 use Rattle.documents.specs.Judgement.{parentsOf}
-use Rattle.documents.specs.PartList.{Entry, documentFile, documentNumbers, entryPath, ValidParts}
+use Rattle.documents.specs.PartList.{documentNumbers, entryPath, ValidParts}
 use Rattle.documents.proofs.CheckingJoins.{few-paths, below-64}
 use Rattle.documents.proofs.ValidLists.{read-valid, valid-leads}
 use Rattle.theory.specs.Evidence.{consistentb, inconsistentNumbers, ShowsInconsistent, WritesInconsistent}
@@ -35,7 +35,7 @@ use Rattle.reasoning.specs.Calls.{ruleListOf, askedOf, documentBytes, inconsist
 use Rattle.reasoning.proofs.ConsistencyJoins.{consistency-agrees, consistency-conflicts}
 use Rattle.reasoning.proofs.Placed.{Placed, fills, tooLong, placed-at}
 use Rattle.reasoning.proofs.ValidFits.{table-fits, asked-in}
-use Rattle.printing.specs.Printing.{DOCUMENT, TEXT, partsListing, verdictText, rulesText, Witness, Conflict, SaysOf, lists, shows, Decided, PrintsRules}
+use Rattle.printing.specs.Printing.{DOCUMENT, TEXT, partsListing, verdictText, rulesText, lists, shows, Decided, PrintsRules}
 
 -- how a verdict comes about: the table fails its test, or a document or evidence is put into the buffer
 data Came (t : Rules) (out : List ℕ) (v : Verdict) (after : List ℕ) : Type 0 where
