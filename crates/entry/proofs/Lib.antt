@@ -1,4 +1,5 @@
 -- The laws of the calls over bytes.
 pub mod Accepted
 pub mod Calling
+pub mod Told
 pub mod Unique

@@ -27,7 +27,7 @@ numbers-unique {numbers = numbers} h g same =
     let z = same (h .given) (g .given) (h .meets) (g .meets) in (h .are ∙ (ap numbers (z .0) ∙ sym (g .are)), z .1)
 
 -- a call that writes is fixed where the lower call is
-module _ {A : Type 0} {numbers : A → List ℕ} {M N : Rules → A → Type 0} {file out answer other after beside : List ℕ} where
+module _ {A : Type 0} {numbers : A → List ℕ} {M N : Rules → A → Type 0} (out : List ℕ) {file answer other after beside : List ℕ} where
   pub writing-unique : Writing numbers M file out answer after → Writing numbers N file out other beside
       → ((t : Rules) (r q : A) → M t r → N t q → (r ≡ q) × (after ≡ beside)) → (answer ≡ other) × (after ≡ beside)
   writing-unique h g same =
@@ -35,7 +35,7 @@ module _ {A : Type 0} {numbers : A → List ℕ} {M N : Rules → A → Type 0} 
 
 pub rewrite-unique : (file out answer other after beside : List ℕ) → Rewrites file out answer after → Rewrites file out other beside
     → (answer ≡ other) × (after ≡ beside)
-rewrite-unique file out answer other after beside h g = writing-unique h g (λ t r q x y. write-unique t out r q after beside x y)
+rewrite-unique file out answer other after beside h g = writing-unique out h g (λ t r q x y. write-unique t out r q after beside x y)
 
 pub check-bytes-unique : (file document answer other : List ℕ) → Checks file document answer → Checks file document other → answer ≡ other
 check-bytes-unique file document answer other h g =
@@ -45,9 +45,9 @@ check-bytes-unique file document answer other h g =
 pub consistency-bytes-unique : (file out answer other after beside : List ℕ) → Decides file out answer after
     → Decides file out other beside → (answer ≡ other) × (after ≡ beside)
 consistency-bytes-unique file out answer other after beside h g =
-    writing-unique h g (λ t r q x y. consistency-unique t out r q after beside x y)
+    writing-unique out h g (λ t r q x y. consistency-unique t out r q after beside x y)
 
 pub ask-bytes-unique : (file : List ℕ) (kind left right : ℕ) (out answer other after beside : List ℕ)
     → Asks file kind left right out answer after → Asks file kind left right out other beside → (answer ≡ other) × (after ≡ beside)
 ask-bytes-unique file kind left right out answer other after beside h g =
-    writing-unique h g (λ t r q x y. ask-unique t kind left right out r q after beside x y)
+    writing-unique out h g (λ t r q x y. ask-unique t kind left right out r q after beside x y)

@@ -22,14 +22,10 @@ use Rattle.listing.specs.Lay.{
   pieceText,
   nextPart,
   placeAfter,
-  LaidText,
-  laysNone,
-  laysMore,
   laysNumber,
   textAt,
   afterAt,
   lays,
-  Lays,
   LaysRefusal,
 }
 use Rattle.listing.proofs.Puts.{stored-length, stored-both}
@@ -118,14 +114,9 @@ pub record LaySoFar (s : List ℕ) (p₀ : Place) (out₀ out : List ℕ) (p : P
   pub fits : n ≤ length out₀
   pub enough : length s ≤ p .at + most
   pub bytes : out ≡ sets out₀ 0 text
-  pub rest : laysMore text (lays most s (length out₀ - n) p) ≡ lays (length s) s (length out₀) p₀
-
-more-more : (a b : List ℕ) (l : LaidText) → laysMore a (laysMore b l) ≡ laysMore (a ++ b) l
-unfolding laysMore
-more-more a b l = λ i. record { text = sym (append-assoc a b (l .text)) i; place = l .place }
+  pub rest : text ++ lays most s (length out₀ - n) p ≡ lays (length s) s (length out₀) p₀
 
 pub lay-start : (s : List ℕ) (p : Place) (out : List ℕ) → LaySoFar s p out out p 0
-unfolding laysMore
 lay-start s p out =
     record {
       most = length s;
@@ -143,36 +134,30 @@ module _ (s : List ℕ) (p₀ : Place) (out₀ out : List ℕ) (p : Place) (n : 
   lay-room = omega (arith, inv .fits, inv .room)
 
   -- nothing more is laid out
-  laid : lays (inv .most) s (length out₀ - n) p ≡ laysNone p → Lays s p₀ out₀ out (record { place = p; length = n })
-  unfolding laysMore laysNone
+  laid : lays (inv .most) s (length out₀ - n) p ≡ [] → Stored (lays (length s) s (length out₀) p₀) out₀ 0 out n
   laid e =
-      let all : laysMore (inv .text) (laysNone p) ≡ lays (length s) s (length out₀) p₀ = ap (laysMore (inv .text)) (sym e) ∙ inv .rest in
-      let text : inv .text ≡ lays (length s) s (length out₀) p₀ .text = sym (append-nil (inv .text)) ∙ ap (λ (l : LaidText). l .text) all in
-      record {
-        place = ap (λ (l : LaidText). l .place) all;
-        size = inv .used ∙ ap length text;
-        bytes = inv .bytes ∙ ap (sets out₀ 0) text;
-        within = inv .fits;
-      }
+      let text : inv .text ≡ lays (length s) s (length out₀) p₀ =
+      sym (append-nil (inv .text)) ∙ ap (λ (l : List ℕ). inv .text ++ l) (sym e) ∙ inv .rest in
+      record { next = inv .used ∙ ap length text ∙ omega arith; bytes = inv .bytes ∙ ap (sets out₀ 0) text }
 
-  no-more : (most : ℕ) → length out₀ - n < 48 → lays most s (length out₀ - n) p ≡ laysNone p
+  no-more : (most : ℕ) → length out₀ - n < 48 → lays most s (length out₀ - n) p ≡ []
   unfolding lays
   no-more zero h = refl
   no-more (suc most) h = rw (lt-leb 48 (length out₀ - n) h)
 
-  no-number : (most k : ℕ) → numberIn (drop (p .at) s) ≡ Refused k → lays most s (length out₀ - n) p ≡ laysNone p
+  no-number : (most k : ℕ) → numberIn (drop (p .at) s) ≡ Refused k → lays most s (length out₀ - n) p ≡ []
   unfolding lays laysNumber
   no-number zero k e = refl
   no-number (suc most) k e = by (leb 48 (length out₀ - n)) refl
     where
-      by : (t : Bool) → leb 48 (length out₀ - n) ≡ t → lays (suc most) s (length out₀ - n) p ≡ laysNone p
+      by : (t : Bool) → leb 48 (length out₀ - n) ≡ t → lays (suc most) s (length out₀ - n) p ≡ []
       by true f = rw (f, e)
       by false f = rw f
 
-  pub lay-full : length out - n < 48 → Lays s p₀ out₀ out (record { place = p; length = n })
+  pub lay-full : length out - n < 48 → Stored (lays (length s) s (length out₀) p₀) out₀ 0 out n
   lay-full h = laid (no-more (inv .most) (omega (arith, inv .room)))
 
-  pub lay-end : {k : ℕ} (r : Number) → r ≡ numberIn (drop (p .at) s) → r ≡ Refused k → Lays s p₀ out₀ out (record { place = p; length = n })
+  pub lay-end : {k : ℕ} (r : Number) → r ≡ numberIn (drop (p .at) s) → r ≡ Refused k → Stored (lays (length s) s (length out₀) p₀) out₀ 0 out n
   lay-end {k} r e f = laid (no-number (inv .most) k (sym e ∙ f))
 
   module _ (more : 48 ≤ length out - n) {x size : ℕ} (r : Number) (e : r ≡ numberIn (drop (p .at) s)) (f : r ≡ Is x size) where
@@ -216,7 +201,7 @@ module _ (s : List ℕ) (p₀ : Place) (out₀ out : List ℕ) (p : Place) (n : 
 
       -- one number, and what is laid out after it
       one-more : (most : ℕ) → lays (suc most) s (length out₀ - n) p
-          ≡ laysMore (textAt s p x size) (lays most s (length out₀ - n - length (textAt s p x size)) (afterAt p x size))
+          ≡ textAt s p x size ++ lays most s (length out₀ - n - length (textAt s p x size)) (afterAt p x size)
       unfolding lays laysNumber
       one-more most = rw (le-leb 48 (length out₀ - n) (omega (arith, inv .room)), is)
 
@@ -237,10 +222,10 @@ module _ (s : List ℕ) (p₀ : Place) (out₀ out : List ℕ) (p : Place) (n : 
             bytes = stored-both (inv .text) t out₀ out after 0 n m (record { next = omega (arith, inv .used); bytes = inv .bytes }) stored .bytes;
             rest =
                 let left : length out₀ - m ≡ length out₀ - n - length t = omega (arith, stored .next) in
-                ap₂ (λ (k : ℕ) (z : Place). laysMore (inv .text ++ t) (lays (inv .most - 1) s k z)) left (g ∙ after-is)
-                ∙ sym (more-more (inv .text) t (lays (inv .most - 1) s (length out₀ - n - length t) (afterAt p x size)))
-                ∙ ap (laysMore (inv .text)) (sym (one-more (inv .most - 1)))
-                ∙ ap (λ (k : ℕ). laysMore (inv .text) (lays k s (length out₀ - n) p)) (sym some)
+                ap₂ (λ (k : ℕ) (z : Place). (inv .text ++ t) ++ lays (inv .most - 1) s k z) left (g ∙ after-is)
+                ∙ append-assoc (inv .text) t (lays (inv .most - 1) s (length out₀ - n - length t) (afterAt p x size))
+                ∙ ap (λ (l : List ℕ). inv .text ++ l) (sym (one-more (inv .most - 1)))
+                ∙ ap (λ (k : ℕ). inv .text ++ lays k s (length out₀ - n) p) (sym some)
                 ∙ inv .rest;
           }
 

@@ -1,7 +1,8 @@
--- The laws of digits, lines and blocks of the listing.
-pub mod Blocks
+-- The laws of digits, lines and lengths of the listing.
 pub mod Digits
 pub mod Laying
+pub mod Lengths
 pub mod Listings
 pub mod Pieces
 pub mod Puts
+pub mod Whole

@@ -1,4 +1,4 @@
--- Laid out number by number, a document's text is its listing and evidence's text is its line; and block after block is the whole.
+-- Laid out number by number, a document's text is its listing and evidence's text is its line.
 use Prim.Native.Nat.{ℕ, _+_, _-_, _%_, _<_, _≤_}
 use mathlib.Core.Path.{_≡_, refl, sym, ap, ap₂, _∙_}
 use mathlib.Core.Bool.{true}

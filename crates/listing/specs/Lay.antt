@@ -4,7 +4,6 @@ use mathlib.Core.Path.{_≡_}
 use mathlib.Core.Bool.{Bool, true, false, cond}
 use mathlib.Core.List.{List, [], _∷_, _++_}
 use lib.ListN.{length, drop}
-use lib.Seq.{sets}
 use lib.Dec.{eqb, leb}
 use Rattle.files.specs.declared.number.Number.{Number}
 use Rattle.files.specs.declared.number.Number.the-variants.{Is, Refused}
@@ -13,7 +12,6 @@ use Rattle.documents.specs.PartList.{Entry}
 use Rattle.listing.specs.declared.lay.Place.{Place}
 use Rattle.listing.specs.declared.lay.Stage.{Stage}
 use Rattle.listing.specs.declared.lay.Stage.the-variants.{Count, Path, Children, Child, First, More}
-use Rattle.listing.specs.declared.lay.Laid.{Laid}
 use Rattle.listing.specs.Text.{digits, spaced, feed, Stored}
 
 -- the word `consistent`
@@ -85,24 +83,6 @@ documentStart = record { at = 0; stage = Count; part = 0; left = 0 }
 abbrev pub evidenceStart : Place
 evidenceStart = record { at = 0; stage = First; part = 0; left = 0 }
 
--- a text laid out, and the place after it
-pub record LaidText : Type 0 where
-  pub text : List ℕ
-  pub place : Place
-
--- nothing laid out
-unfoldable pub laysNone : Place → LaidText
-laysNone p = record { text = []; place = p }
-
--- a text put before what is laid out after it
-unfoldable pub laysMore : List ℕ → LaidText → LaidText
-laysMore text l = record { text = text ++ l .text; place = l .place }
-
--- what stands at a place: a number is gone on with, anything else ends the text
-unfoldable pub laysNumber : Place → (ℕ → ℕ → LaidText) → Number → LaidText
-laysNumber p go (Is x size) = go x size
-laysNumber p go (Refused k) = laysNone p
-
 -- the text of the number x of `size` bytes at a place
 unfoldable pub textAt : List ℕ → Place → ℕ → ℕ → List ℕ
 textAt s p x size = pieceText (p .stage) (p .part) (p .left) (leb (length s) (p .at + size)) x
@@ -111,21 +91,23 @@ textAt s p x size = pieceText (p .stage) (p .part) (p .left) (leb (length s) (p 
 unfoldable pub afterAt : Place → ℕ → ℕ → Place
 afterAt p x size = placeAfter (p .stage) (p .at + size) (p .part) (p .left) x
 
+-- what stands at a place: a number is gone on with, anything else ends the text
+unfoldable pub laysNumber : (ℕ → ℕ → List ℕ) → Number → List ℕ
+laysNumber go (Is x size) = go x size
+laysNumber go (Refused k) = []
+
 -- the numbers of the bytes s from a place on, as many as have 48 bytes of room before them in a block of so much room; `most`
 -- bounds how many numbers there are
-unfoldable pub lays : ℕ → List ℕ → ℕ → Place → LaidText
-lays zero s room p = laysNone p
+unfoldable pub lays : ℕ → List ℕ → ℕ → Place → List ℕ
+lays zero s room p = []
 lays (suc most) s room p =
     cond (leb 48 room)
-    (laysNumber p (λ x size. laysMore (textAt s p x size) (lays most s (room - length (textAt s p x size)) (afterAt p x size))) (numberIn (drop (p .at) s)))
-    (laysNone p)
+    (laysNumber (λ x size. textAt s p x size ++ lays most s (room - length (textAt s p x size)) (afterAt p x size)) (numberIn (drop (p .at) s)))
+    []
 
--- what laying out the numbers of s from a place on answers, and the block after the call
-pub record Lays (s : List ℕ) (p : Place) (out after : List ℕ) (r : Laid) : Type 0 where
-  pub place : r .place ≡ lays (length s) s (length out) p .place
-  pub size : r .length ≡ length (lays (length s) s (length out) p .text)
-  pub bytes : after ≡ sets out 0 (lays (length s) s (length out) p .text)
-  pub within : r .length ≤ length out
+-- what is laid out of the numbers of s, of which the first is of this stage, in a block
+abbrev pub laidText : List ℕ → Stage → List ℕ → List ℕ
+laidText s stage out = lays (length s) s (length out) (record { at = 0; stage = stage; part = 0; left = 0 })
 
 -- what laying out a refusal answers, and the block after the call
 pub record LaysRefusal (k at : ℕ) (out after : List ℕ) (r : ℕ) : Type 0 where

@@ -1,11 +1,11 @@
-// Numbers of a document or of evidence laid out as text, as much of it as a lent block takes.
+// Numbers of a document or of evidence laid out as text, as much of it as a lent block takes, and the line of a refusal.
 ghost use Prim.Native.Nat.{_+_, _≤_, _<_};
 ghost use mathlib.Core.Path.{_≡_};
 ghost use mathlib.Core.Bool.{true};
 ghost use mathlib.Core.List.{[], _∷_, _++_};
 ghost use lib.ListN.{length, drop};
 ghost use Rattle.listing.specs.Text.{digits, spaced, feed, Stored};
-ghost use Rattle.listing.specs.Lay.{consistent, inconsistent, pieceText, nextPart, placeAfter, Lays, LaysRefusal};
+ghost use Rattle.listing.specs.Lay.{consistent, inconsistent, pieceText, nextPart, placeAfter, laidText, LaysRefusal};
 use files::number::Number;
 use files::number::read_number;
 
@@ -22,17 +22,11 @@ pub enum Stage {
 
 // Where the text goes on: the place of the next number among the bytes and what it is, the number of its part, and how many
 // children are left.
-pub struct Place {
-    pub at: usize,
-    pub stage: Stage,
-    pub part: u64,
-    pub left: u64,
-}
-
-// The place after what was laid out, and how many bytes of the block that took.
-pub struct Laid {
-    pub place: Place,
-    pub length: usize,
+struct Place {
+    at: usize,
+    stage: Stage,
+    part: u64,
+    left: u64,
 }
 
 // The digits of a number stand in the last slots, from `from` on.
@@ -237,17 +231,23 @@ fn place_after(stage: Stage, next: usize, part: u64, left: u64, x: u64) -> Place
     }
 }
 
-// The numbers from a place on laid out at the start of the block: as many as have 48 bytes of room before them.
-pub fn lay(bytes: &[u8], from: Place, out: &mut [u8]) -> Laid
-    ensures { λ r. ⌜ Lays (now (bytes .entry)) from (now (out .entry)) (now (out .exit)) r ⌝ }
+// The numbers of a document or of evidence, of which the first is of this stage, laid out at the start of the block, and how
+// many bytes that took: as many numbers as have 48 bytes of room before them.
+pub fn lay(bytes: &[u8], stage: Stage, out: &mut [u8]) -> usize
+    ensures { λ r. ⌜ Stored (laidText (now (bytes .entry)) stage (now (out .entry))) (now (out .entry)) 0 (now (out .exit)) r ⌝ }
 {
-    let mut place = from;
+    let mut place = Place {
+        at: 0,
+        stage,
+        part: 0,
+        left: 0,
+    };
     let mut length = 0usize;
     while 48 <= out.len() - length {
         let at = place.at;
         match read_number(bytes, at) {
             Number::Refused(_) => {
-                return Laid { place, length };
+                return length;
             }
             Number::Is(n, size) => {
                 let stage = place.stage;
@@ -265,7 +265,7 @@ pub fn lay(bytes: &[u8], from: Place, out: &mut [u8]) -> Laid
             }
         }
     }
-    Laid { place, length }
+    length
 }
 
 // The line of a refusal laid out at the start of the block, and its length; nothing where there is less room than 64 bytes.

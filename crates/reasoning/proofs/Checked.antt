@@ -26,10 +26,9 @@ use Rattle.reasoning.proofs.Placed.{fills-take}
 use Rattle.reasoning.proofs.QuestionJoins.{counter-begins}
 use Rattle.reasoning.proofs.ReadBack.{document-is, document-same, document-valid, document-read, document-room}
 
--- what was read is the same list and the same length
-got-same : {s : List ℕ} {parent : ℕ → ℕ} {count : ℕ} (es fs : List Entry) (m n : ℕ) → runAll (documentFile parent count) s ≡ got es m
-    → runAll (documentFile parent count) s ≡ got fs n → es ≡ fs
-got-same es fs m n e f = let z : _≡_ {A = Outcome (List Entry)} (got es m) (got fs n) = sym e ∙ f in cc
+-- what was read is one list
+got-same : (es fs : List Entry) (m n : ℕ) → _≡_ {A = Outcome (List Entry)} (got es m) (got fs n) → es ≡ fs
+got-same es fs m n e = cc
 
 module _ (t : Rules) (v : ValidTable t) {goals : List ℕ} {start : Start} (begins : Begins (parentsOf t) (t .paths) goals start) where
   -- the document that 01 writes down, as the check of documents reads it
@@ -44,7 +43,7 @@ module _ (t : Rules) (v : ValidTable t) {goals : List ℕ} {start : Start} (begi
   }
     where
       same : h .parts ≡ d .parts
-      same = got-same (h .parts) (d .parts) (length bytes) (length bytes) (h .read) (document-read t v begins d)
+      same = got-same (h .parts) (d .parts) (length bytes) (length bytes) (sym (h .read) ∙ document-read t v begins d)
 
 -- a witness handed back obeys
 pub witness-obeys : (t : Rules) (out : List ℕ) (r : Verdict) (after : List ℕ) (n : ℕ) (c : Checked) → t .required < 2 ^ 64

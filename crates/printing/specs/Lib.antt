@@ -1,0 +1,2 @@
+-- The definitions of the whole text that the verdict program prints.
+pub mod Printing
