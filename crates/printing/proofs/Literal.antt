@@ -2,47 +2,12 @@
 use Prim.Native.Nat.{ℕ}
 use mathlib.Core.Path.{_≡_, refl}
 use mathlib.Core.List.{List, [], _∷_}
-use Rattle.files.specs.Format.{andThen, onTest, onNumber, run, atEnd, runAll}
-use Rattle.files.specs.Number.{twoBytes, secondIn, numberIn}
-use Rattle.files.specs.Reading.{readingOf, readAnswer}
-use Rattle.files.specs.RuleFile.{
-  between,
-  deeper,
-  depths,
-  parentTest,
-  sameChild,
-  repeats,
-  labelTest,
-  pathLabel,
-  onePath,
-  morePaths,
-  moreAscending,
-  ruleRight,
-  ruleLeft,
-  oneRule,
-  moreRules,
-  rulesToEnd,
-  afterRequired,
-  requiredOn,
-  afterPaths,
-  afterRoot,
-  afterCount,
-  ruleFile,
-}
-use Rattle.files.specs.Rules.{pathsFrom, rulesFrom, padded, rulesOf, addAll, tableOf, noRules}
-use Rattle.files.specs.Sets.{belowAll}
-use Rattle.files.specs.Writing.{pathPasses, pathsPass, rulePasses, rulesPass, requiredPass, tablePasses, put}
+use Rattle.files.specs.LiteralFiles.{listedFile}
 use Rattle.documents.specs.PartList.{listed, namers, namedTest, pathTest, kidsOn, partAt, onePart, moreParts, documentFile}
-use Rattle.theory.proofs.Computing.{computing}
 use Rattle.listing.specs.Text.{digitsBefore, digits, spaced, feed}
 use Rattle.listing.specs.Lay.{consistent, inconsistent, refusedWord, refusedText, inconsistentText, partsText, consistentText}
-use Rattle.reasoning.specs.Calls.{answerOf, answered, documentBytes, inconsistentBytes, consistencyAnswer}
+use Rattle.reasoning.proofs.Examples.{answering}
 use Rattle.printing.specs.Printing.{partsListing, verdictText, rulesText, answerText, printedText}
-
--- the rule file of 01's listing
-abbrev listingFile : List ℕ
-listingFile =
-    5 ∷ 10 ∷ 0 ∷ 11 ∷ 1 ∷ 12 ∷ 1 ∷ 13 ∷ 0 ∷ 14 ∷ 1 ∷ 2 ∷ 3 ∷ 1 ∷ 2 ∷ 4 ∷ 1 ∷ 4 ∷ 3 ∷ 2 ∷ 2 ∷ 3 ∷ []
 
 -- 01's listing
 abbrev listingText : List ℕ
@@ -70,32 +35,23 @@ refusedFile = 4 ∷ 10 ∷ 0 ∷ 11 ∷ 1 ∷ 12 ∷ 3 ∷ 13 ∷ 0 ∷ 0 ∷ []
 abbrev refusedLine : List ℕ
 refusedLine = 114 ∷ 101 ∷ 102 ∷ 117 ∷ 115 ∷ 101 ∷ 100 ∷ 32 ∷ 52 ∷ 32 ∷ 54 ∷ 10 ∷ []
 
--- the listing of 01
-pub listing-printed : printedText listingFile ≡ listingText
+-- what the text is computed from, under one name
+unfoldable writing : ℕ
 unfolding printedText answerText rulesText verdictText partsListing consistentText partsText inconsistentText refusedText consistent inconsistent
-    refusedWord digits digitsBefore spaced feed consistencyAnswer answered answerOf documentBytes inconsistentBytes put tablePasses pathsPass
-    pathPasses rulesPass rulePasses requiredPass belowAll tableOf padded addAll rulesOf pathsFrom rulesFrom noRules readAnswer readingOf
-    runAll run atEnd onNumber onTest andThen numberIn secondIn twoBytes ruleFile between deeper depths parentTest sameChild repeats
-    labelTest onePath pathLabel morePaths moreAscending oneRule ruleLeft ruleRight moreRules rulesToEnd afterRequired requiredOn afterPaths
-    afterRoot afterCount documentFile moreParts onePart partAt kidsOn pathTest namedTest namers listed computing
+    refusedWord digits digitsBefore spaced feed documentFile moreParts onePart partAt kidsOn pathTest namedTest namers listed answering
+writing = 0
+
+-- the listing of 01
+pub listing-printed : printedText (listedFile .bytes) ≡ listingText
+unfolding writing
 listing-printed = refl
 
 -- an inconsistent set
 pub inconsistent-printed : printedText inconsistentFile ≡ inconsistentLine
-unfolding printedText answerText rulesText verdictText partsListing consistentText partsText inconsistentText refusedText consistent inconsistent
-    refusedWord digits digitsBefore spaced feed consistencyAnswer answered answerOf documentBytes inconsistentBytes put tablePasses pathsPass
-    pathPasses rulesPass rulePasses requiredPass belowAll tableOf padded addAll rulesOf pathsFrom rulesFrom noRules readAnswer readingOf
-    runAll run atEnd onNumber onTest andThen numberIn secondIn twoBytes ruleFile between deeper depths parentTest sameChild repeats
-    labelTest onePath pathLabel morePaths moreAscending oneRule ruleLeft ruleRight moreRules rulesToEnd afterRequired requiredOn afterPaths
-    afterRoot afterCount documentFile moreParts onePart partAt kidsOn pathTest namedTest namers listed computing
+unfolding writing
 inconsistent-printed = refl
 
 -- a refused file
 pub refused-printed : printedText refusedFile ≡ refusedLine
-unfolding printedText answerText rulesText verdictText partsListing consistentText partsText inconsistentText refusedText consistent inconsistent
-    refusedWord digits digitsBefore spaced feed consistencyAnswer answered answerOf documentBytes inconsistentBytes put tablePasses pathsPass
-    pathPasses rulesPass rulePasses requiredPass belowAll tableOf padded addAll rulesOf pathsFrom rulesFrom noRules readAnswer readingOf
-    runAll run atEnd onNumber onTest andThen numberIn secondIn twoBytes ruleFile between deeper depths parentTest sameChild repeats
-    labelTest onePath pathLabel morePaths moreAscending oneRule ruleLeft ruleRight moreRules rulesToEnd afterRequired requiredOn afterPaths
-    afterRoot afterCount documentFile moreParts onePart partAt kidsOn pathTest namedTest namers listed computing
+unfolding writing
 refused-printed = refl

@@ -1,6 +1,6 @@
 -- No second length, and no second block, meets the contract of printing; and no accepted file has a refusal's line.
 use Prim.Native.Nat.{ℕ, _<_}
-use mathlib.Core.Path.{_≡_, sym, ap, _∙_}
+use mathlib.Core.Path.{_≡_, sym, _∙_}
 use mathlib.Core.List.{List}
 use native.Mathlib.Decide.{decLt}
 use native.Mathlib.Omega.{arith}
@@ -27,7 +27,7 @@ pub accepted-no-refusal : (file : List ℕ) (r : Reading) → ReadRules file r �
     → (k at : ℕ) → text ≡ refusedText k at → ⊥
 unfolding consistentText consistent inconsistentText inconsistent refusedText refusedWord
 accepted-no-refusal file r h e text (refuses n o m f) k at g =
-    let was : Answer.Refused n o ≡ Answer.Accepted = sym (ap (λ (q : Reading). q .answer) (h .refuses n o m)) ∙ e in
+    let was : Answer.Refused n o ≡ Answer.Accepted = sym (h .refuses n o m) ∙ e in
     let z : _≡_ {A = ℕ} 0 1 = cc in omega arith
 accepted-no-refusal file r h e text (accepts q v f (lists parts w i)) k at g =
     let same : consistentText parts ≡ refusedText k at = sym i ∙ g in

@@ -13,7 +13,7 @@ use Rattle.files.specs.declared.rules.Rules.{Rules}
 use Rattle.files.specs.Format.{Format, Leads}
 use Rattle.files.specs.Number.{Bytes, bytesOfAll}
 use Rattle.files.specs.Rules.{rulesOf, ValidTable}
-use Rattle.files.specs.Writing.{tablePasses}
+use Rattle.files.specs.TableTest.{tablePasses}
 use Rattle.files.proofs.TableTests.{passes-valid}
 use Rattle.documents.specs.Judgement.{parentsOf}
 use Rattle.documents.specs.PartList.{documentNumbers, entryPath, ValidParts}
@@ -33,7 +33,7 @@ use Rattle.listing.proofs.Whole.{whole-document, whole-evidence}
 use Rattle.reasoning.specs.declared.consistency.Verdict.{Verdict}
 use Rattle.reasoning.specs.Calls.{ruleListOf, askedOf, documentBytes, inconsistentBytes, consistencyAnswer, HandsBack}
 use Rattle.reasoning.proofs.ConsistencyJoins.{consistency-agrees, consistency-conflicts}
-use Rattle.reasoning.proofs.Placed.{Placed, fills, tooLong, placed-at}
+use Rattle.reasoning.proofs.Placed.{Placed, fills, tooLong, placed-at, fills-take}
 use Rattle.reasoning.proofs.ValidFits.{table-fits, asked-in}
 use Rattle.printing.specs.Printing.{DOCUMENT, TEXT, partsListing, verdictText, rulesText, lists, shows, Decided, PrintsRules}
 
@@ -101,9 +101,9 @@ module _ (t : Rules) (word : t .required < 2 ^ 64) (v : Verdict) (bytes out : Li
     where
       by : Came t (replicate DOCUMENT 0) v bytes → ⊥
       by (fails f) = passes f
-      by (agrees (fills l f s)) = let z : _≡_ {A = ℕ} 0 1 = cc in omega arith
+      by (agrees (fills f s)) = let z : _≡_ {A = ℕ} 0 1 = cc in omega arith
       by (agrees (tooLong l f s)) = h .decides .room (omega (arith, room)) f
-      by (conflicts c (fills l f s)) = let z : _≡_ {A = ℕ} 0 1 = cc in omega arith
+      by (conflicts c (fills f s)) = let z : _≡_ {A = ℕ} 0 1 = cc in omega arith
       by (conflicts c (tooLong l f s)) = h .decides .room (omega (arith, room)) f
 
   module _ (n : ℕ) (e : v ≡ Verdict.Consistent n) where
@@ -112,10 +112,10 @@ module _ (t : Rules) (word : t .required < 2 ^ 64) (v : Verdict) (bytes out : Li
       where
         by : Came t (replicate DOCUMENT 0) v bytes → n ≤ length bytes
         by (fails f) = absurd (passes f)
-        by (agrees (fills l f s)) =
-            let z : length (documentBytes t (startConsistency (askedOf t))) ≡ n = cc in omega (arith, room, h .all)
+        by (agrees (fills f s)) =
+            let z : length (documentBytes t (startConsistency (askedOf t))) ≡ n = cc in omega (arith, s .fits, room, h .all)
         by (agrees (tooLong l f s)) = absurd (let z : _≡_ {A = ℕ} 0 1 = cc in omega arith)
-        by (conflicts c (fills l f s)) = absurd (let z : _≡_ {A = ℕ} 0 1 = cc in omega arith)
+        by (conflicts c (fills f s)) = absurd (let z : _≡_ {A = ℕ} 0 1 = cc in omega arith)
         by (conflicts c (tooLong l f s)) = absurd (let z : _≡_ {A = ℕ} 0 1 = cc in omega arith)
 
     module _ (below : (i : ℕ) → getD bytes i 0 < 256) where
@@ -175,11 +175,11 @@ module _ (t : Rules) (word : t .required < 2 ^ 64) (v : Verdict) (bytes out : Li
 
         by : Came t (replicate DOCUMENT 0) v bytes → Goal
         by (fails f) = absurd (passes f)
-        by (agrees (fills l f s)) = absurd (let z : _≡_ {A = ℕ} 0 1 = cc in omega arith)
+        by (agrees (fills f s)) = absurd (let z : _≡_ {A = ℕ} 0 1 = cc in omega arith)
         by (agrees (tooLong l f s)) = absurd (let z : _≡_ {A = ℕ} 0 1 = cc in omega arith)
-        by (conflicts c (fills l f s)) =
+        by (conflicts c (fills f s)) =
             let z : length (inconsistentBytes t) ≡ n = cc in
-            (c, omega (arith, room, h .all), ap (λ (k : ℕ). take k bytes) (sym z) ∙ s)
+            (c, omega (arith, s .fits, room, h .all), ap (λ (k : ℕ). take k bytes) (sym z) ∙ fills-take s)
         by (conflicts c (tooLong l f s)) = absurd (let z : _≡_ {A = ℕ} 0 1 = cc in omega arith)
 
     pub evidence-within : n ≤ length bytes
