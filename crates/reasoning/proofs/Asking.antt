@@ -34,7 +34,6 @@ use Rattle.reasoning.proofs.Calling.{taken, passed-table, valid-passed}
 use Rattle.theory.proofs.HandedRows.{Begins}
 use Rattle.reasoning.proofs.QuestionJoins.{askable-asked, counter-begins}
 use Rattle.reasoning.proofs.TableArrays.{arrays-parents, arrays-rules}
-use Rattle.reasoning.proofs.ValidFits.{table-fits}
 use Rattle.handed.proofs.Writable.{table-words, writable}
 
 -- ---- whether a question can be asked

@@ -6,13 +6,13 @@ use mathlib.Core.List.{List}
 use native.Mathlib.Omega.{arith}
 use lib.ListN.{length, take}
 use Rattle.files.specs.declared.rules.Rules.{Rules}
-use Rattle.files.specs.Format.{Outcome, got, runAll}
+use Rattle.files.specs.Format.{Outcome, got}
 use Rattle.files.specs.Number.{bytesOfAll}
 use Rattle.files.specs.Rules.{ValidTable}
 use Rattle.documents.specs.declared.check.Checked.{Checked}
 use Rattle.documents.specs.Checking.{CheckDocument}
 use Rattle.documents.specs.Judgement.{parentsOf, Reads, obeys}
-use Rattle.documents.specs.PartList.{Entry, documentFile, documentNumbers, ValidParts}
+use Rattle.documents.specs.PartList.{Entry, documentNumbers, ValidParts}
 use Rattle.documents.specs.Tree.{Forest}
 use Rattle.documents.proofs.CheckingJoins.{Obeyed, obeys-judged}
 use Rattle.theory.specs.Handed.{Start}

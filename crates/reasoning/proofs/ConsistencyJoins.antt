@@ -24,7 +24,6 @@ use Rattle.reasoning.specs.Calls.{
   inconsistentBytes,
   consistencyAnswer,
   Fills,
-  IsDocument,
   HandsBack,
   BringsEvidence,
   Agrees,

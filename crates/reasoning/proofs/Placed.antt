@@ -1,5 +1,5 @@
 -- Bytes put into a lent buffer, in the words of an answer: they fill its start, or they are longer than it and it stays as it was.
-use Prim.Native.Nat.{ℕ, _≤_, _<_}
+use Prim.Native.Nat.{ℕ, _<_}
 use mathlib.Core.Path.{_≡_, refl, sym, ap, subst₂, _∙_}
 use mathlib.Core.Bool.{Bool, true, false}
 use mathlib.Core.List.{List}

@@ -2,8 +2,8 @@
 -- words is the one that the computed children give.
 use Prim.Native.Nat.{ℕ, zero, suc, _+_, _≤_, _<_}
 use mathlib.Core.Path.{_≡_, refl, sym, ap, subst, _∙_}
-use mathlib.Core.Logic.{_⊎_, inl, inr, _↔_}
-use mathlib.Core.Bool.{Bool, true, false, not, true≢false, false≢true}
+use mathlib.Core.Logic.{_⊎_, inl, inr}
+use mathlib.Core.Bool.{Bool, true, false, false≢true}
 use mathlib.Core.List.{
   List,
   [],
@@ -26,12 +26,12 @@ use Rattle.documents.specs.Paths.{Below, StrictlyBelow, Descending, towards}
 use Rattle.documents.specs.Parts.{Named, given, further}
 use Rattle.documents.specs.PartList.{Entry}
 use Rattle.documents.proofs.Paths.{eqb-true, eqb-false, below-trans, below-le, below-antisym, strictly-lt, towards-parent, towards-strictly, towards-below, towards-highest}
-use Rattle.theory.specs.Parts.{Part, ReachAny, RulesIn, Decides, someb, meetAll, childFor, childForAll, ownEach, ownKids, coversb, lacksb, fill, kidsOf, partZero}
+use Rattle.theory.specs.Parts.{Part, RulesIn, Decides, someb, meetAll, childFor, ownEach, ownKids, coversb, lacksb, fill, kidsOf, partZero}
 use Rattle.theory.specs.Children.{Towards, ChildFor, GoalsContext, OwnChild, each, all, Covers, GetsChild, ChildrenOf}
 use Rattle.theory.specs.Order.{Matches, LaysDown, WritesParts, WritesDocument}
 use Rattle.theory.proofs.Completeness.{named-goals}
 use Rattle.theory.proofs.Fill.{someb-some, some-someb, lacks-so, lacks-not, fill-keeps}
-use Rattle.theory.proofs.Kids.{Goals, KidOf, alone, Own, own-each, meet-above, meet-longest, any-small, any-strictly, covers-any, kid-goals, kids-are}
+use Rattle.theory.proofs.Kids.{Goals, alone, own-each, meet-above, meet-longest, any-small, any-strictly, covers-any, kid-goals, kids-are}
 
 -- ---- the paths chosen, computed
 
