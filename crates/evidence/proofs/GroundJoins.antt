@@ -2,34 +2,31 @@
 use Prim.Native.Nat.{ℕ, _^_, _≤_, _<_}
 use mathlib.Core.Path.{_≡_, refl, sym, ap, ap₂, subst, _∙_}
 use mathlib.Core.Bool.{Bool, true, false, not, _&&_, _||_}
-use mathlib.Core.List.{List, [], _∷_, _++_, append-nil}
+use mathlib.Core.List.{List, _++_, append-nil}
 use native.Mathlib.Omega.{arith}
 use native.Mathlib.Decide.{ℕ-discrete}
 use lib.Dec.{T, eqb, ltb, ltb→lt}
 use lib.Ieee.Fits.{and-l, and-r}
-use borrow.Author.Tests.{eq-eqb, ne-eqb, lt-ltb, le-ltb, eqb-true, eqb-false, ltb-true}
+use borrow.Author.Tests.{eq-eqb, ne-eqb, lt-ltb, le-ltb, ltb-true}
 use Rattle.files.specs.Table.{Rule}
 use Rattle.files.specs.Sets.{Has, common, lowest}
 use Rattle.files.proofs.SetBits.{has-common, common-lt}
 use Rattle.documents.specs.Paths.{Below, contextOf}
 use Rattle.documents.proofs.Paths.{contextOf-context}
-use Rattle.theory.specs.Reachable.{Fits, reachable, reachb}
+use Rattle.theory.specs.Reachable.{Fits, reachb}
 use Rattle.theory.specs.Least.{passing, someIn}
-use Rattle.theory.specs.Search.{writtenWalk}
-use Rattle.theory.specs.Decide.{ruleAt, clashing, clashesFrom, isDead, deadPath, deadRule, deadPaths, pairb, pairRule, isPair, pairSide, reacher, rootRule, isRootPair, rootFirst, rootSecond, isAskedDead, deadAsked}
-use Rattle.theory.specs.Evidence.{walkNumbers, firstSide, secondSide, impliesb, excludesb, yesb, consistentb, directNumbers, deadNumbersBy, deadNumbers, pairNumbers, implicationNumbers, absenceNumbers, evidenceNumbers, inconsistentNumbers}
+use Rattle.theory.specs.Decide.{ruleAt, clashing, clashesFrom, isDead, deadPath, deadRule, deadPaths, pairb, pairRule, isPair, pairSide, reacher, isRootPair, rootFirst, rootSecond, isAskedDead, deadAsked}
+use Rattle.theory.specs.Evidence.{firstSide, secondSide, impliesb, excludesb, yesb, consistentb, deadNumbersBy, deadNumbers, pairNumbers, implicationNumbers, absenceNumbers, evidenceNumbers, inconsistentNumbers}
 use Rattle.theory.proofs.Reachable.{reachable-small}
 use Rattle.theory.proofs.Least.{passing-iff, passing-small, some-lowest}
-use Rattle.theory.proofs.Evidence.{meets-in-table}
 use Rattle.reachable.specs.Sheet.{row, absenceAt, ruleIn, leftIn, rightIn, placeIn, absencesIn}
 use Rattle.reachable.specs.SheetWords.{Says}
 use Rattle.evidence.specs.declared.ground.Ground.{Ground}
 use Rattle.evidence.specs.declared.ground.Ground.the-variants.{None, Direct, Dead, Pair}
-use Rattle.evidence.specs.declared.ground.Both.{Both}
-use Rattle.evidence.specs.Choices.{clashingIn, firstRow, clashesAt, clashesIn, deadNeeded, straightIn, pairIn, reachersIn, rootIn}
-use Rattle.evidence.specs.Grounds.{given, orElse, saysYes, InRange, firstEnd, secondEnd, rowGround, deadAt, deadFrom, deadGround, pairWith, pairGround, rootWith, rootGround, directIn, implicationGround, exclusionGround, groundsOn, deadLowest, conflictGround, directOn, endNumbers, deadOn, pairOn, groundNumbers}
+use Rattle.evidence.specs.Choices.{firstRow, clashesAt, clashesIn, deadNeeded, pairIn, reachersIn, rootIn}
+use Rattle.evidence.specs.Grounds.{given, orElse, saysYes, InRange, firstEnd, secondEnd, rowGround, deadAt, deadFrom, deadGround, pairWith, pairGround, rootWith, rootGround, implicationGround, exclusionGround, groundsOn, deadLowest, conflictGround, endNumbers, deadOn, pairOn, groundNumbers}
 use Rattle.evidence.proofs.Walking.{true-of, T-true, walk-same, direct-same, direct-numbers}
-use Rattle.evidence.proofs.Joins.{row-place, row-left, row-right, left-low, right-low, place-low, straight-same, clash-found, clash-rule, clashing-same, from-same, from-clash, needed-same, pair-found, pair-rule, reachers-some, reachers-lowest, root-found, root-rule, root-passes}
+use Rattle.evidence.proofs.Joins.{row-place, row-left, row-right, left-low, right-low, place-low, straight-same, clash-found, clash-rule, from-same, from-clash, needed-same, pair-found, pair-rule, reachers-some, reachers-lowest, root-found, root-rule, root-passes}
 
 -- ---- in range
 

@@ -1,22 +1,21 @@
 -- What is chosen and decided by the words of a sheet is what the table's decisions say.
 use Prim.Native.Nat.{ℕ, zero, suc, _^_, _≤_, _<_}
-use mathlib.Core.Path.{_≡_, refl, sym, ap, ap₂, subst, _∙_}
+use mathlib.Core.Path.{_≡_, sym, ap, ap₂, subst, _∙_}
 use mathlib.Core.Logic.{_⊎_, inl, inr, _↔_}
 use mathlib.Core.Bool.{Bool, true, false, _&&_, _||_}
 use mathlib.Core.List.{List}
 use native.Mathlib.Omega.{arith}
 use native.Mathlib.Decide.{ℕ-discrete, decLt}
-use lib.Dec.{T, eqb, ltb, ltb→lt, lt→ltb, lit<}
+use lib.Dec.{T, eqb, ltb, ltb→lt, lit<}
 use lib.Ieee.Fits.{and-l, and-r, and-i}
 use lib.ListN.{length}
-use Rattle.files.specs.Table.{Rule, Numbered}
-use Rattle.files.specs.Sets.{Has, hasb, union, common, lowest, members}
+use Rattle.files.specs.Table.{Rule}
+use Rattle.files.specs.Sets.{Has, hasb, common, lowest, members}
 use Rattle.files.proofs.SetBits.{same-sets, not-has, bit-of-zero, has-union, has-common, common-lt, union-lt}
 use Rattle.files.proofs.SetLowest.{lowest-first}
 use Rattle.files.proofs.SetMembers.{mem-members}
-use Rattle.documents.specs.Paths.{Below, Context, belowb, contextOf}
+use Rattle.documents.specs.Paths.{Below, belowb, contextOf}
 use Rattle.documents.proofs.Paths.{below-le, belowb-iff, context-is}
-use Rattle.theory.specs.Walk.{Reach}
 use Rattle.theory.specs.Reachable.{Fits, reachable, reachb}
 use Rattle.theory.specs.Least.{least, passing, someIn}
 use Rattle.theory.specs.Decide.{ruleAt, bothFrom, clashb, clashRule, clashes, clashing, clashesFrom, isDead, deadPaths, sidesFrom, pairb, pairRule, isPair, reacher, rootSides, rootb, rootRule, isRootPair}

@@ -1,5 +1,5 @@
 -- The walks found by the words of a sheet are the written walks of the table, and a walk is found exactly if there is one.
-use Prim.Native.Nat.{ℕ, _≤_, _<_}
+use Prim.Native.Nat.{ℕ, _<_}
 use mathlib.Core.Path.{_≡_, refl, sym, subst}
 use mathlib.Core.Logic.{_↔_}
 use mathlib.Core.Bool.{Bool, true, false, _&&_, _||_}
@@ -9,8 +9,8 @@ use native.Mathlib.Decide.{ℕ-discrete, decLt}
 use lib.Dec.{T, eqb, ltb}
 use borrow.Author.Tests.{eq-eqb, ne-eqb, le-ltb}
 use Rattle.files.specs.Table.{Rule}
-use Rattle.documents.specs.Paths.{Below, contextOf}
-use Rattle.documents.proofs.Paths.{context-is, below-le, contextOf-context}
+use Rattle.documents.specs.Paths.{contextOf}
+use Rattle.documents.proofs.Paths.{context-is, contextOf-context}
 use Rattle.theory.specs.Walk.{Reach}
 use Rattle.theory.specs.Least.{someIn}
 use Rattle.theory.specs.Reachable.{Fits, reachb}

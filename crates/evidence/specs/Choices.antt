@@ -1,6 +1,6 @@
 -- What is chosen from the words of a sheet: clashes, dead paths, pairs and the root pair, by the rows of absence rules.
 use Prim.Native.Nat.{ℕ, zero, suc}
-use mathlib.Core.Bool.{Bool, true, false, _&&_, _||_}
+use mathlib.Core.Bool.{Bool, _&&_, _||_}
 use mathlib.Core.List.{List, [], _∷_}
 use lib.Dec.{eqb}
 use Rattle.files.specs.Sets.{hasb, union, common, members}

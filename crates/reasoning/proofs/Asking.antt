@@ -1,12 +1,11 @@
 -- Questions: from a table that passed its test to what the call promises.
 use Prim.Native.Nat.{ℕ, _%_, _^_, _<_, _≤_}
 use mathlib.Core.Path.{_≡_, refl, sym, ap, subst, _∙_}
-use mathlib.Core.Bool.{Bool, true, false, not, _||_}
+use mathlib.Core.Bool.{Bool, true, false, not}
 use mathlib.Core.List.{List, _++_, append-nil}
 use native.Mathlib.Omega.{arith}
 use native.Mathlib.Decide.{ℕ-discrete}
 use lib.Dec.{ltb}
-use lib.ListN.{take, replicate}
 use borrow.Author.Tests.{lt-ltb, le-ltb, le-leb, lt-leb, eq-eqb, ne-eqb, not-true, not-false}
 use Rattle.files.specs.declared.rules.Rules.{Rules}
 use Rattle.files.specs.declared.write.Written.{Written}
@@ -27,7 +26,6 @@ use Rattle.reachable.specs.Arrays.{parentOf, ruleList}
 use Rattle.reachable.specs.Sheet.{contextIn, laid}
 use Rattle.reachable.specs.Grow.{withSets, sheetOf}
 use Rattle.reachable.specs.Known.{DepthsIn, FirstWords, Known}
-use Rattle.evidence.specs.declared.ground.Ground.{Ground}
 use Rattle.evidence.specs.declared.ground.Ground.the-variants.{None, Direct}
 use Rattle.evidence.specs.declared.ground.Both.{Both}
 use Rattle.evidence.specs.Choices.{clashingIn}
@@ -40,7 +38,7 @@ use Rattle.handed.proofs.Writable.{table-words, writable}
 use Rattle.reasoning.specs.declared.question.Reply.{Reply}
 use Rattle.reasoning.specs.declared.question.Begins.{Begins as Beginning}
 use Rattle.reasoning.specs.Calls.{askable, answerOf, AnswersQuestion}
-use Rattle.reasoning.specs.Lent.{Passed, LentSheet, PassedQuestion, Asked, Denied, Told, counterOn}
+use Rattle.reasoning.specs.Lent.{PassedQuestion, Asked, Denied, Told, counterOn}
 use Rattle.reasoning.proofs.CallLaws.{ask-refuses, ask-bars, ask-shows, ask-hands}
 use Rattle.reasoning.proofs.Calling.{passed-sound, passed-fits, passed-laid, passed-says, passed-clash, lent-known, valid-passed}
 use Rattle.reasoning.proofs.QuestionJoins.{askable-asked}

@@ -5,7 +5,7 @@ use mathlib.Core.Bool.{Bool, true, false, not}
 use borrow.Author.Tests.{not-true, not-false}
 use mathlib.Core.List.{List, _∷_}
 use native.Mathlib.Omega.{arith}
-use lib.ListN.{length, take, drop, replicate}
+use lib.ListN.{length, take, drop}
 use lib.Seq.{length-sets, sets-eq, take-at}
 use Rattle.files.specs.declared.rules.Rules.{Rules}
 use Rattle.files.specs.declared.write.Written.{Written}
