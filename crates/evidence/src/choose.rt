@@ -1,442 +1,151 @@
-// Dead paths, pairs and the root pair, from the words of the table.
+// Clashes, dead paths, pairs and the root pair: which absence rule it is, from the words of the sheet.
 ghost use Prim.Native.Nat.{_≤_, _<_};
 ghost use mathlib.Core.Path.{_≡_};
-ghost use Rattle.theory.specs.Decide.{clashRule, clashing, pairRule, pairSide, reacher, rootRule};
-ghost use Rattle.theory.specs.Least.{passing};
-ghost use Rattle.reachable.specs.Arrays.{parentOf, ruleOf, ruleList, Parents};
-ghost use Rattle.reachable.specs.Known.{Placed, Known};
-ghost use Rattle.evidence.specs.Words.{Ready, bothIn, joinIf, joinPassing, clashIn, clashBy, clashesIn, deadIn, sidesIn, straightIn, pairIn, askedIn, joinAsked, fromAsked, rootIn};
-use files::number::wide;
+ghost use Rattle.files.specs.Sets.{members};
+ghost use Rattle.evidence.specs.Choices.{clashIn, clashingIn, clashesAt, firstRow, clashesIn, straightIn, pairIn, reachersIn, rootIn, joinWords, deadNeeded};
+ghost use Rattle.reachable.specs.Sheet.{setAt, absencesIn};
 use files::sets;
-use reachable::reach::reach;
-use reachable::steps::context;
+use reachable::sheet::WORDS;
+use reachable::sheet::absence;
+use reachable::sheet::absences;
+use reachable::sheet::back;
+use reachable::sheet::left_of;
+use reachable::sheet::place_of;
+use reachable::sheet::reach;
+use reachable::sheet::right_of;
 
-// Whether l and r are both reachable from y inside a.
-fn both(depth: &[u8; 64], table: &[u64; 512], a: usize, l: usize, r: usize, y: usize) -> bool
-    requires { ⌜ Placed (now depth) a y ⌝ }
-    ensures { λ t. ⌜ t ≡ bothIn (now (depth .entry)) (now (table .entry)) a l r y ⌝ }
+// The paths at which the absence rule of this row clashes.
+fn clash_by(sheet: &[u64; WORDS], w: u64) -> u64
+    ensures { λ r. ⌜ r ≡ clashIn (now (sheet .entry)) w ⌝ }
 {
-    let s = reach(depth, table, a, y);
-    if sets::has(s, l) {
-        return sets::has(s, r);
-    }
-    false
-}
-
-// The set with path x too if the test passes.
-fn join_if(test: bool, w: u64, x: usize) -> u64
-    ensures { λ r. ⌜ r ≡ joinIf test w x ⌝ }
-{
-    if test {
-        return sets::with(w, x);
-    }
-    w
-}
-
-// Each path from which l and r are both reachable inside a joins.
-fn clash_paths(
-    depth: &[u8; 64],
-    table: &[u64; 512],
-    count: usize,
-    a: usize,
-    l: usize,
-    r: usize,
-    start: u64,
-) -> u64
-    requires { ⌜ (count ≤ 64) × Placed (now depth) a 0 ⌝ }
-    ensures { λ w. ⌜ w ≡ joinPassing (bothIn (now (depth .entry)) (now (table .entry)) a l r) count 0 start ⌝ }
-{
-    let mut w = start;
-    let mut y = 0usize;
-    while y < count {
-        w = join_if(both(depth, table, a, l, r, y), w, y);
-        y += 1;
-    }
-    w
-}
-
-// Each path at which a rule of this kind and with these sides clashes joins.
-fn clash_by(
-    parent: &[u8; 64],
-    count: usize,
-    depth: &[u8; 64],
-    table: &[u64; 512],
-    k: u8,
-    l: usize,
-    r: usize,
-    start: u64,
-) -> u64
-    requires { ⌜ Ready (now parent) (now depth) count l r ⌝ }
-    ensures { λ w. ⌜ w ≡ clashBy (now (depth .entry)) (now (table .entry)) (now (parent .entry)) count (ruleOf k l r) start ⌝ }
-{
-    if k == 2 {
-        let a = context(parent, l, r);
-        return clash_paths(depth, table, count, a, l, r, start);
-    }
-    start
+    let a = place_of(w);
+    sets::common(back(sheet, a, left_of(w)), back(sheet, a, right_of(w)))
 }
 
 // The paths at which some rule clashes.
-pub fn clashing(
-    parent: &[u8; 64],
-    kind: &[u8; 256],
-    left: &[u8; 256],
-    right: &[u8; 256],
-    count: usize,
-    many: usize,
-    depth: &[u8; 64],
-    table: &[u64; 512],
-) -> u64
-    requires { ⌜ Known (now parent) (now kind) (now left) (now right) count many (now depth) (now table) ⌝ }
-    ensures { λ w. ⌜ w ≡ clashing (parentOf (now (parent .entry))) (ruleList (now (kind .entry)) (now (left .entry)) (now (right .entry)) many) count ⌝ }
+pub fn clashing(sheet: &[u64; WORDS]) -> u64
+    ensures { λ r. ⌜ r ≡ clashingIn (now (sheet .entry)) ⌝ }
 {
+    let n = absences(sheet);
     let mut w = 0u64;
-    let mut x = 0usize;
-    while x < many {
-        w = clash_by(
-            parent,
-            count,
-            depth,
-            table,
-            kind[x],
-            wide(left[x]),
-            wide(right[x]),
-            w,
-        );
-        x += 1;
+    let mut j = 0usize;
+    while j < n {
+        w = sets::union(w, clash_by(sheet, absence(sheet, j)));
+        j += 1;
     }
     w
 }
 
-// Whether a rule of this kind and with these sides clashes at y.
-fn clashes_at(
-    parent: &[u8; 64],
-    count: usize,
-    depth: &[u8; 64],
-    table: &[u64; 512],
-    k: u8,
-    l: usize,
-    r: usize,
-    y: usize,
-) -> bool
-    requires { ⌜ (y < count) × Ready (now parent) (now depth) count l r ⌝ }
-    ensures { λ t. ⌜ t ≡ clashIn (now (depth .entry)) (now (table .entry)) (now (parent .entry)) (ruleOf k l r) y ⌝ }
+// The first row of an absence rule that clashes at y; the number of rows if none does.
+pub(crate) fn clash_row(sheet: &[u64; WORDS], y: usize) -> usize
+    ensures { λ r. ⌜ (r ≡ firstRow (now (sheet .entry)) (clashesAt (now (sheet .entry)) y)) × (r ≤ absencesIn (now (sheet .entry))) ⌝ }
 {
-    if k == 2 {
-        let a = context(parent, l, r);
-        return both(depth, table, a, l, r, y);
-    }
-    false
-}
-
-// The least rule that clashes at y; the number of rules if none does.
-pub(crate) fn clash_rule(
-    parent: &[u8; 64],
-    kind: &[u8; 256],
-    left: &[u8; 256],
-    right: &[u8; 256],
-    count: usize,
-    many: usize,
-    depth: &[u8; 64],
-    table: &[u64; 512],
-    y: usize,
-) -> usize
-    requires { ⌜ (y < count) × Known (now parent) (now kind) (now left) (now right) count many (now depth) (now table) ⌝ }
-    ensures { λ r. ⌜ (r ≡ clashRule (parentOf (now (parent .entry))) (ruleList (now (kind .entry)) (now (left .entry)) (now (right .entry)) many) count y) × (r ≤ many) ⌝ }
-{
-    let mut x = 0usize;
-    while x < many {
-        if clashes_at(
-            parent,
-            count,
-            depth,
-            table,
-            kind[x],
-            wide(left[x]),
-            wide(right[x]),
-            y,
-        ) {
-            return x;
+    let n = absences(sheet);
+    let mut j = 0usize;
+    while j < n {
+        if sets::has(clash_by(sheet, absence(sheet, j)), y) {
+            return j;
         }
-        x += 1;
+        j += 1;
     }
-    many
+    n
 }
 
 // The paths of `clash` that are reachable from p inside the root.
-pub(crate) fn clashes_from(depth: &[u8; 64], table: &[u64; 512], clash: u64, p: usize) -> u64
-    requires { ⌜ Placed (now depth) 0 p ⌝ }
-    ensures { λ r. ⌜ r ≡ clashesIn (now (depth .entry)) (now (table .entry)) clash p ⌝ }
+pub(crate) fn clashes_from(sheet: &[u64; WORDS], clash: u64, p: usize) -> u64
+    requires { ⌜ p < 64 ⌝ }
+    ensures { λ r. ⌜ r ≡ clashesIn (now (sheet .entry)) clash p ⌝ }
 {
-    sets::common(reach(depth, table, 0, p), clash)
+    sets::common(reach(sheet, 0, p), clash)
 }
 
-// Whether a path of `clash` is reachable from p inside the root.
-pub(crate) fn is_dead(depth: &[u8; 64], table: &[u64; 512], clash: u64, p: usize) -> bool
-    requires { ⌜ Placed (now depth) 0 p ⌝ }
-    ensures { λ r. ⌜ r ≡ deadIn (now (depth .entry)) (now (table .entry)) clash p ⌝ }
+// The paths from which a path of the set is reachable inside the root.
+fn reaching(sheet: &[u64; WORDS], s: u64) -> u64
+    ensures { λ r. ⌜ r ≡ joinWords (setAt 512 (now (sheet .entry)) 0) (members s) 0 ⌝ }
 {
-    let w = clashes_from(depth, table, clash, p);
-    w != 0
-}
-
-// The paths from which a path of `clash` is reachable inside the root.
-pub(crate) fn dead_paths(depth: &[u8; 64], table: &[u64; 512], clash: u64, count: usize) -> u64
-    requires { ⌜ (count ≤ 64) × Placed (now depth) 0 0 ⌝ }
-    ensures { λ r. ⌜ r ≡ passing (deadIn (now (depth .entry)) (now (table .entry)) clash) count ⌝ }
-{
-    let mut w = 0u64;
-    let mut p = 0usize;
-    while p < count {
-        w = join_if(is_dead(depth, table, clash, p), w, p);
-        p += 1;
+    let mut joined = 0u64;
+    let mut left = s;
+    while left != 0 {
+        joined = sets::union(joined, back(sheet, 0, sets::lowest(left)));
+        left = sets::without_lowest(left);
     }
-    w
+    joined
 }
 
-// Whether a is a prefix of c, and inside a l is reachable from p and r from q.
-fn sides(
-    depth: &[u8; 64],
-    table: &[u64; 512],
-    a: usize,
-    l: usize,
-    r: usize,
-    c: usize,
-    p: usize,
-    q: usize,
-) -> bool
-    requires { ⌜ Placed (now depth) a c × (p < 64) × (q < 64) ⌝ }
-    ensures { λ t. ⌜ t ≡ sidesIn (now (depth .entry)) (now (table .entry)) a l r c p q ⌝ }
+// The dead paths that are needed.
+pub(crate) fn dead_needed(sheet: &[u64; WORDS], clash: u64, needed: u64) -> u64
+    ensures { λ r. ⌜ r ≡ deadNeeded (now (sheet .entry)) clash needed ⌝ }
 {
-    if sets::has(reach(depth, table, a, c), c) {
-        if sets::has(reach(depth, table, a, p), l) {
-            return sets::has(reach(depth, table, a, q), r);
+    sets::common(reaching(sheet, clash), needed)
+}
+
+// Whether the left side of the absence rule of this row is reachable from p, and its right side from q, inside its context.
+pub(crate) fn straight(sheet: &[u64; WORDS], w: u64, p: usize, q: usize) -> bool
+    ensures { λ t. ⌜ t ≡ straightIn (now (sheet .entry)) p q w ⌝ }
+{
+    let a = place_of(w);
+    if sets::has(back(sheet, a, left_of(w)), p) {
+        return sets::has(back(sheet, a, right_of(w)), q);
+    }
+    false
+}
+
+// Whether the absence rule of this row excludes p and q, straight or crossed.
+fn pair_by(sheet: &[u64; WORDS], w: u64, p: usize, q: usize) -> bool
+    ensures { λ t. ⌜ t ≡ pairIn (now (sheet .entry)) p q w ⌝ }
+{
+    if straight(sheet, w, p, q) {
+        return true;
+    }
+    straight(sheet, w, q, p)
+}
+
+// The first row of an absence rule that excludes p and q, straight or crossed; the number of rows if none does.
+pub(crate) fn pair_row(sheet: &[u64; WORDS], p: usize, q: usize) -> usize
+    ensures { λ r. ⌜ (r ≡ firstRow (now (sheet .entry)) (pairIn (now (sheet .entry)) p q)) × (r ≤ absencesIn (now (sheet .entry))) ⌝ }
+{
+    let n = absences(sheet);
+    let mut j = 0usize;
+    while j < n {
+        if pair_by(sheet, absence(sheet, j), p, q) {
+            return j;
+        }
+        j += 1;
+    }
+    n
+}
+
+// The paths needed from which t is reachable inside the root.
+pub(crate) fn reachers(sheet: &[u64; WORDS], needed: u64, t: usize) -> u64
+    requires { ⌜ t < 64 ⌝ }
+    ensures { λ r. ⌜ r ≡ reachersIn (now (sheet .entry)) needed t ⌝ }
+{
+    sets::common(back(sheet, 0, t), needed)
+}
+
+// Whether the absence rule of this row stands at the root, with both sides reachable there from paths needed.
+fn root_by(sheet: &[u64; WORDS], needed: u64, w: u64) -> bool
+    ensures { λ t. ⌜ t ≡ rootIn (now (sheet .entry)) needed w ⌝ }
+{
+    if place_of(w) == 0 {
+        if reachers(sheet, needed, left_of(w)) != 0 {
+            return reachers(sheet, needed, right_of(w)) != 0;
         }
     }
     false
 }
 
-// Whether a rule of this kind and with these sides excludes p and q below c, straight or crossed.
-fn pair_by(
-    parent: &[u8; 64],
-    count: usize,
-    depth: &[u8; 64],
-    table: &[u64; 512],
-    k: u8,
-    l: usize,
-    r: usize,
-    c: usize,
-    p: usize,
-    q: usize,
-) -> bool
-    requires { ⌜ Ready (now parent) (now depth) count l r × (c < count) × (p < count) × (q < count) ⌝ }
-    ensures { λ t. ⌜ t ≡ pairIn (now (depth .entry)) (now (table .entry)) (now (parent .entry)) (ruleOf k l r) c p q ⌝ }
+// The first row of an absence rule at the root that excludes two paths needed; the number of rows if there is none.
+pub(crate) fn root_row(sheet: &[u64; WORDS], needed: u64) -> usize
+    ensures { λ r. ⌜ (r ≡ firstRow (now (sheet .entry)) (rootIn (now (sheet .entry)) needed)) × (r ≤ absencesIn (now (sheet .entry))) ⌝ }
 {
-    if k == 2 {
-        let a = context(parent, l, r);
-        if sides(depth, table, a, l, r, c, p, q) {
-            return true;
+    let n = absences(sheet);
+    let mut j = 0usize;
+    while j < n {
+        if root_by(sheet, needed, absence(sheet, j)) {
+            return j;
         }
-        return sides(depth, table, a, l, r, c, q, p);
+        j += 1;
     }
-    false
-}
-
-// The least rule that excludes p and q below c, straight or crossed; the number of rules if none does.
-pub(crate) fn pair_rule(
-    parent: &[u8; 64],
-    kind: &[u8; 256],
-    left: &[u8; 256],
-    right: &[u8; 256],
-    count: usize,
-    many: usize,
-    depth: &[u8; 64],
-    table: &[u64; 512],
-    c: usize,
-    p: usize,
-    q: usize,
-) -> usize
-    requires { ⌜ Known (now parent) (now kind) (now left) (now right) count many (now depth) (now table) × (c < count) × (p < count) × (q < count) ⌝ }
-    ensures { λ r. ⌜ (r ≡ pairRule (parentOf (now (parent .entry))) (ruleList (now (kind .entry)) (now (left .entry)) (now (right .entry)) many) count c p q) × (r ≤ many) ⌝ }
-{
-    let mut x = 0usize;
-    while x < many {
-        if pair_by(
-            parent,
-            count,
-            depth,
-            table,
-            kind[x],
-            wide(left[x]),
-            wide(right[x]),
-            c,
-            p,
-            q,
-        ) {
-            return x;
-        }
-        x += 1;
-    }
-    many
-}
-
-// Whether a rule of this kind and with these sides excludes p and q below c with its sides as they stand.
-fn straight_by(
-    parent: &[u8; 64],
-    count: usize,
-    depth: &[u8; 64],
-    table: &[u64; 512],
-    k: u8,
-    l: usize,
-    r: usize,
-    c: usize,
-    p: usize,
-    q: usize,
-) -> bool
-    requires { ⌜ Ready (now parent) (now depth) count l r × (c < count) × (p < count) × (q < count) ⌝ }
-    ensures { λ t. ⌜ t ≡ straightIn (now (depth .entry)) (now (table .entry)) (now (parent .entry)) (ruleOf k l r) c p q ⌝ }
-{
-    if k == 2 {
-        let a = context(parent, l, r);
-        return sides(depth, table, a, l, r, c, p, q);
-    }
-    false
-}
-
-// The side by which rule x excludes p and q below c: 0 if its sides as they stand do.
-pub(crate) fn pair_side(
-    parent: &[u8; 64],
-    kind: &[u8; 256],
-    left: &[u8; 256],
-    right: &[u8; 256],
-    count: usize,
-    many: usize,
-    depth: &[u8; 64],
-    table: &[u64; 512],
-    c: usize,
-    p: usize,
-    q: usize,
-    x: usize,
-) -> usize
-    requires { ⌜ Known (now parent) (now kind) (now left) (now right) count many (now depth) (now table) × (c < count) × (p < count) × (q < count) × (x < many) ⌝ }
-    ensures { λ r. ⌜ (r ≡ pairSide (parentOf (now (parent .entry))) (ruleList (now (kind .entry)) (now (left .entry)) (now (right .entry)) many) count c p q x) × (r ≤ 1) ⌝ }
-{
-    if straight_by(
-        parent,
-        count,
-        depth,
-        table,
-        kind[x],
-        wide(left[x]),
-        wide(right[x]),
-        c,
-        p,
-        q,
-    ) {
-        return 0;
-    }
-    1
-}
-
-// Whether x is asked for and t is reachable from it inside the root.
-fn asks(depth: &[u8; 64], table: &[u64; 512], asked: u64, t: usize, x: usize) -> bool
-    requires { ⌜ Placed (now depth) 0 x ⌝ }
-    ensures { λ r. ⌜ r ≡ askedIn (now (depth .entry)) (now (table .entry)) asked t x ⌝ }
-{
-    if sets::has(asked, x) {
-        return sets::has(reach(depth, table, 0, x), t);
-    }
-    false
-}
-
-// The lowest path asked for from which t is reachable inside the root; the number of paths if there is none.
-pub(crate) fn reacher(
-    parent: &[u8; 64],
-    kind: &[u8; 256],
-    left: &[u8; 256],
-    right: &[u8; 256],
-    count: usize,
-    many: usize,
-    depth: &[u8; 64],
-    table: &[u64; 512],
-    asked: u64,
-    t: usize,
-) -> usize
-    requires { ⌜ Known (now parent) (now kind) (now left) (now right) count many (now depth) (now table) ⌝ }
-    ensures { λ r. ⌜ (r ≡ reacher (parentOf (now (parent .entry))) (ruleList (now (kind .entry)) (now (left .entry)) (now (right .entry)) many) count asked t) × (r ≤ count) ⌝ }
-{
-    let mut x = 0usize;
-    while x < count {
-        if asks(depth, table, asked, t, x) {
-            return x;
-        }
-        x += 1;
-    }
-    count
-}
-
-// The set with all that is reachable from x inside the root, if x is asked for.
-fn join_asked(depth: &[u8; 64], table: &[u64; 512], asked: u64, x: usize, w: u64) -> u64
-    requires { ⌜ Placed (now depth) 0 x ⌝ }
-    ensures { λ r. ⌜ r ≡ joinAsked (now (depth .entry)) (now (table .entry)) asked x w ⌝ }
-{
-    if sets::has(asked, x) {
-        return sets::union(w, reach(depth, table, 0, x));
-    }
-    w
-}
-
-// All that is reachable inside the root from the paths asked for.
-fn from_asked(depth: &[u8; 64], table: &[u64; 512], asked: u64, count: usize) -> u64
-    requires { ⌜ (count ≤ 64) × Placed (now depth) 0 0 ⌝ }
-    ensures { λ r. ⌜ r ≡ fromAsked (now (depth .entry)) (now (table .entry)) asked count ⌝ }
-{
-    let mut w = 0u64;
-    let mut x = 0usize;
-    while x < count {
-        w = join_asked(depth, table, asked, x, w);
-        x += 1;
-    }
-    w
-}
-
-// Whether a rule of this kind and with these sides is an absence at the root with both sides in the set.
-fn root_by(parent: &[u8; 64], count: usize, set: u64, k: u8, l: usize, r: usize) -> bool
-    requires { ⌜ Parents (now parent) count × (l < count) × (r < count) ⌝ }
-    ensures { λ t. ⌜ t ≡ rootIn (now (parent .entry)) set (ruleOf k l r) ⌝ }
-{
-    if k == 2 {
-        if sets::has(set, l) {
-            if sets::has(set, r) {
-                return context(parent, l, r) == 0;
-            }
-        }
-    }
-    false
-}
-
-// The least absence at the root that excludes two paths asked for; the number of rules if there is none.
-pub(crate) fn root_rule(
-    parent: &[u8; 64],
-    kind: &[u8; 256],
-    left: &[u8; 256],
-    right: &[u8; 256],
-    count: usize,
-    many: usize,
-    depth: &[u8; 64],
-    table: &[u64; 512],
-    asked: u64,
-) -> usize
-    requires { ⌜ Known (now parent) (now kind) (now left) (now right) count many (now depth) (now table) ⌝ }
-    ensures { λ r. ⌜ (r ≡ rootRule (parentOf (now (parent .entry))) (ruleList (now (kind .entry)) (now (left .entry)) (now (right .entry)) many) count asked) × (r ≤ many) ⌝ }
-{
-    let set = from_asked(depth, table, asked, count);
-    let mut x = 0usize;
-    while x < many {
-        if root_by(parent, count, set, kind[x], wide(left[x]), wide(right[x])) {
-            return x;
-        }
-        x += 1;
-    }
-    many
+    n
 }

@@ -1,208 +1,147 @@
-// Decisions from the words of the table: what a question is answered, and whether a set is consistent.
-ghost use Prim.Native.Nat.{_≤_, _<_};
+// Decisions: the ground of a question, and of an inconsistent set.
+ghost use Prim.Native.Nat.{_<_};
 ghost use mathlib.Core.Path.{_≡_};
-ghost use mathlib.Core.Bool.{true, false};
-ghost use Rattle.theory.specs.Evidence.{impliesb, excludesb, yesb, consistentb};
-ghost use Rattle.reachable.specs.Arrays.{parentOf, ruleList};
-ghost use Rattle.reachable.specs.Known.{Placed};
-ghost use Rattle.evidence.specs.Words.{Ready, directIn, deadAskedIn, Decided};
-use crate::choose::dead_paths;
-use crate::choose::is_dead;
-use crate::choose::pair_rule;
-use crate::choose::root_rule;
+ghost use Rattle.evidence.specs.Grounds.{deadGround, pairGround, rootGround, directIn, implicationGround, exclusionGround, groundsOn, conflictGround};
+use crate::choose::clash_row;
+use crate::choose::clashes_from;
+use crate::choose::dead_needed;
+use crate::choose::pair_row;
+use crate::choose::reachers;
+use crate::choose::root_row;
+use crate::choose::straight;
+use crate::ground::Both;
+use crate::ground::Ground;
+use crate::ground::given;
+use crate::nearer::nearer;
 use files::sets;
-use reachable::reach::reach;
-use reachable::steps::context;
+use reachable::sheet::WORDS;
+use reachable::sheet::absence;
+use reachable::sheet::absences;
+use reachable::sheet::below;
+use reachable::sheet::context;
+use reachable::sheet::left_of;
+use reachable::sheet::right_of;
 
-// Whether q is reachable from p inside their context.
-pub(crate) fn is_direct(
-    parent: &[u8; 64],
-    count: usize,
-    depth: &[u8; 64],
-    table: &[u64; 512],
-    p: usize,
-    q: usize,
-) -> bool
-    requires { ⌜ Ready (now parent) (now depth) count p q ⌝ }
-    ensures { λ t. ⌜ t ≡ directIn (now (depth .entry)) (now (table .entry)) (now (parent .entry)) p q ⌝ }
+// That p is dead: the least path at which a rule clashes, and the least rule.
+fn dead(sheet: &[u64; WORDS], clash: u64, p: usize) -> Ground
+    requires { ⌜ p < 64 ⌝ }
+    ensures { λ g. ⌜ g ≡ deadGround (now (sheet .entry)) clash p ⌝ }
 {
-    let c = context(parent, p, q);
-    sets::has(reach(depth, table, c, p), q)
+    let w = clashes_from(sheet, clash, p);
+    if w == 0 {
+        return Ground::None;
+    }
+    let y = sets::lowest(w);
+    let j = clash_row(sheet, y);
+    if j < absences(sheet) {
+        return Ground::Dead(p, y, absence(sheet, j));
+    }
+    Ground::None
 }
 
-// The dead paths that are asked for.
-pub(crate) fn dead_asked(
-    depth: &[u8; 64],
-    table: &[u64; 512],
-    clash: u64,
-    count: usize,
-    asked: u64,
-) -> u64
-    requires { ⌜ (count ≤ 64) × Placed (now depth) 0 0 ⌝ }
-    ensures { λ t. ⌜ t ≡ deadAskedIn (now (depth .entry)) (now (table .entry)) clash count asked ⌝ }
+// That a rule excludes p and q: the least rule, side 0 preferred.
+fn pair(sheet: &[u64; WORDS], p: usize, q: usize) -> Ground
+    ensures { λ g. ⌜ g ≡ pairGround (now (sheet .entry)) p q ⌝ }
 {
-    sets::common(dead_paths(depth, table, clash, count), asked)
+    let j = pair_row(sheet, p, q);
+    if j < absences(sheet) {
+        let w = absence(sheet, j);
+        if straight(sheet, w, p, q) {
+            return Ground::Pair(p, q, w, 0);
+        }
+        return Ground::Pair(p, q, w, 1);
+    }
+    Ground::None
 }
 
-// Whether an implication is answered yes: direct, or p is dead.
-pub fn implies(
-    parent: &[u8; 64],
-    kind: &[u8; 256],
-    left: &[u8; 256],
-    right: &[u8; 256],
-    count: usize,
-    many: usize,
-    depth: &[u8; 64],
-    table: &[u64; 512],
-    clash: u64,
-    p: usize,
-    q: usize,
-) -> bool
-    requires { ⌜ Decided (now parent) (now kind) (now left) (now right) count many (now depth) (now table) clash × (p < count) × (q < count) ⌝ }
-    ensures { λ t. ⌜ t ≡ impliesb (parentOf (now (parent .entry))) (ruleList (now (kind .entry)) (now (left .entry)) (now (right .entry)) many) count p q ⌝ }
+// That an absence at the root excludes two paths needed: the least rule, and the lowest paths that reach its sides.
+fn root_pair(sheet: &[u64; WORDS], needed: u64) -> Ground
+    ensures { λ g. ⌜ g ≡ rootGround (now (sheet .entry)) needed ⌝ }
 {
-    if is_direct(parent, count, depth, table, p, q) {
+    let j = root_row(sheet, needed);
+    if j < absences(sheet) {
+        let w = absence(sheet, j);
+        let x = sets::lowest(reachers(sheet, needed, left_of(w)));
+        let y = sets::lowest(reachers(sheet, needed, right_of(w)));
+        return Ground::Pair(x, y, w, 0);
+    }
+    Ground::None
+}
+
+// Whether a walk leads from p to q inside their context.
+pub fn is_direct(sheet: &[u64; WORDS], p: usize, q: usize) -> bool
+    requires { ⌜ (p < 64) × (q < 64) ⌝ }
+    ensures { λ t. ⌜ t ≡ directIn (now (sheet .entry)) p q ⌝ }
+{
+    if p == q {
         return true;
     }
-    is_dead(depth, table, clash, p)
+    let within = below(sheet, context(sheet, p, q));
+    nearer(sheet, within, p, q) != 0
 }
 
-// Whether an absence is answered yes: p is dead, q is dead, or a rule excludes them.
-fn excludes(
-    parent: &[u8; 64],
-    kind: &[u8; 256],
-    left: &[u8; 256],
-    right: &[u8; 256],
-    count: usize,
-    many: usize,
-    depth: &[u8; 64],
-    table: &[u64; 512],
-    clash: u64,
-    p: usize,
-    q: usize,
-) -> bool
-    requires { ⌜ Decided (now parent) (now kind) (now left) (now right) count many (now depth) (now table) clash × (p < count) × (q < count) ⌝ }
-    ensures { λ t. ⌜ t ≡ excludesb (parentOf (now (parent .entry))) (ruleList (now (kind .entry)) (now (left .entry)) (now (right .entry)) many) count p q ⌝ }
+// The ground of an implication: direct if there is one, else that p is dead.
+fn implication(sheet: &[u64; WORDS], clash: u64, p: usize, q: usize) -> Ground
+    requires { ⌜ (p < 64) × (q < 64) ⌝ }
+    ensures { λ g. ⌜ g ≡ implicationGround (now (sheet .entry)) clash p q ⌝ }
 {
-    if is_dead(depth, table, clash, p) {
-        return true;
+    if is_direct(sheet, p, q) {
+        return Ground::Direct(p, q);
     }
-    if is_dead(depth, table, clash, q) {
-        return true;
-    }
-    let c = context(parent, p, q);
-    pair_rule(
-        parent,
-        kind,
-        left,
-        right,
-        count,
-        many,
-        depth,
-        table,
-        c,
-        p,
-        q,
-    )
-        < many
+    dead(sheet, clash, p)
 }
 
-// Whether a question is answered yes.
-pub fn yes(
-    parent: &[u8; 64],
-    kind: &[u8; 256],
-    left: &[u8; 256],
-    right: &[u8; 256],
-    count: usize,
-    many: usize,
-    depth: &[u8; 64],
-    table: &[u64; 512],
-    clash: u64,
-    k: u8,
-    p: usize,
-    q: usize,
-) -> bool
-    requires { ⌜ Decided (now parent) (now kind) (now left) (now right) count many (now depth) (now table) clash × (p < count) × (q < count) ⌝ }
-    ensures { λ t. ⌜ t ≡ yesb (parentOf (now (parent .entry))) (ruleList (now (kind .entry)) (now (left .entry)) (now (right .entry)) many) count k p q ⌝ }
+// The ground of an absence: that p is dead, else that q is, else that a rule excludes them.
+fn exclusion(sheet: &[u64; WORDS], clash: u64, p: usize, q: usize) -> Ground
+    requires { ⌜ (p < 64) × (q < 64) ⌝ }
+    ensures { λ g. ⌜ g ≡ exclusionGround (now (sheet .entry)) clash p q ⌝ }
+{
+    let first = dead(sheet, clash, p);
+    if given(first) {
+        return first;
+    }
+    let second = dead(sheet, clash, q);
+    if given(second) {
+        return second;
+    }
+    pair(sheet, p, q)
+}
+
+// The ground of a question, by its kind.
+pub fn grounds(sheet: &[u64; WORDS], clash: u64, k: u8, p: usize, q: usize) -> Both
+    requires { ⌜ (p < 64) × (q < 64) ⌝ }
+    ensures { λ b. ⌜ b ≡ groundsOn (now (sheet .entry)) clash k p q ⌝ }
 {
     if k == 1 {
-        return implies(
-            parent,
-            kind,
-            left,
-            right,
-            count,
-            many,
-            depth,
-            table,
-            clash,
-            p,
-            q,
-        );
+        let first = implication(sheet, clash, p, q);
+        return Both {
+            first,
+            second: Ground::None,
+        };
     }
     if k == 2 {
-        return excludes(
-            parent,
-            kind,
-            left,
-            right,
-            count,
-            many,
-            depth,
-            table,
-            clash,
-            p,
-            q,
-        );
+        let first = exclusion(sheet, clash, p, q);
+        return Both {
+            first,
+            second: Ground::None,
+        };
     }
-    if implies(
-        parent,
-        kind,
-        left,
-        right,
-        count,
-        many,
-        depth,
-        table,
-        clash,
-        p,
-        q,
-    ) {
-        return implies(
-            parent,
-            kind,
-            left,
-            right,
-            count,
-            many,
-            depth,
-            table,
-            clash,
-            q,
-            p,
-        );
-    }
-    false
+    let first = implication(sheet, clash, p, q);
+    let second = implication(sheet, clash, q, p);
+    Both { first, second }
 }
 
-// Whether some document that obeys the rules holds all the paths asked for.
-pub fn consistent(
-    parent: &[u8; 64],
-    kind: &[u8; 256],
-    left: &[u8; 256],
-    right: &[u8; 256],
-    count: usize,
-    many: usize,
-    depth: &[u8; 64],
-    table: &[u64; 512],
-    clash: u64,
-    asked: u64,
-) -> bool
-    requires { ⌜ Decided (now parent) (now kind) (now left) (now right) count many (now depth) (now table) clash ⌝ }
-    ensures { λ t. ⌜ t ≡ consistentb (parentOf (now (parent .entry))) (ruleList (now (kind .entry)) (now (left .entry)) (now (right .entry)) many) count asked ⌝ }
+// The ground on which no document holds all the paths needed: the root pair, else that the lowest dead path needed is dead.
+pub fn conflict(sheet: &[u64; WORDS], clash: u64, needed: u64) -> Ground
+    ensures { λ g. ⌜ g ≡ conflictGround (now (sheet .entry)) clash needed ⌝ }
 {
-    if root_rule(parent, kind, left, right, count, many, depth, table, asked) < many {
-        return false;
+    let first = root_pair(sheet, needed);
+    if given(first) {
+        return first;
     }
-    dead_asked(depth, table, clash, count, asked) == 0
+    let d = dead_needed(sheet, clash, needed);
+    if d == 0 {
+        return Ground::None;
+    }
+    dead(sheet, clash, sets::lowest(d))
 }

@@ -1,11 +1,11 @@
 -- Questions: from a table that passed its test to what the call promises.
 use Prim.Native.Nat.{ℕ, _%_, _^_, _<_, _≤_}
-use mathlib.Core.Path.{_≡_, sym, ap, subst, _∙_}
+use mathlib.Core.Path.{_≡_, refl, sym, ap, subst, _∙_}
 use mathlib.Core.Bool.{Bool, true, false, not}
-use mathlib.Core.List.{List}
+use mathlib.Core.List.{List, _++_, append-nil}
 use native.Mathlib.Omega.{arith}
+use native.Mathlib.Decide.{ℕ-discrete}
 use lib.Dec.{ltb}
-use lib.ListN.{take, replicate}
 use borrow.Author.Tests.{lt-ltb, le-ltb, le-leb, lt-leb, eq-eqb, ne-eqb, not-true, not-false}
 use Rattle.files.specs.declared.rules.Rules.{Rules}
 use Rattle.files.specs.declared.write.Written.{Written}
@@ -13,28 +13,37 @@ use Rattle.files.specs.Number.{bytesOfAll}
 use Rattle.files.specs.Rules.{parentsIn, ValidTable}
 use Rattle.files.specs.Sets.{withPath}
 use Rattle.files.specs.TableTest.{tablePasses}
-use Rattle.files.specs.Writing.{put, wrapped, Puts}
+use Rattle.files.specs.Writing.{put, Puts}
 use Rattle.files.proofs.TableTests.{passes-valid}
-use Rattle.documents.specs.Paths.{Descending, contextOf}
-use Rattle.reasoning.specs.declared.question.Reply.{Reply}
-use Rattle.reachable.specs.Arrays.{parentOf, ruleList}
 use Rattle.documents.specs.Judgement.{parentsOf}
-use Rattle.reasoning.specs.Calls.{askable, answerOf, AnswersQuestion}
+use Rattle.documents.specs.Paths.{contextOf}
+use Rattle.theory.specs.Reachable.{reachb}
 use Rattle.theory.specs.Decide.{clashing}
-use Rattle.handed.specs.Emit.{Writable}
-use Rattle.theory.specs.Evidence.{impliesb, yesb, evidenceNumbers}
+use Rattle.theory.specs.Evidence.{impliesb, yesb, implicationNumbers, evidenceNumbers}
 use Rattle.theory.specs.Handed.{handedNumbers, Start, startNo, startBoth}
-use Rattle.reachable.specs.Known.{Reaches}
-use Rattle.evidence.specs.Layers.{Stored}
-use Rattle.reasoning.specs.Lent.{PassedQuestion, Affirmed, Denied, Countered}
-use Rattle.evidence.specs.Words.{Decided}
-use Rattle.handed.specs.Writer.{wordFor, startOf}
-use Rattle.reasoning.proofs.CallLaws.{ask-refuses, ask-bars, ask-shows, ask-hands}
-use Rattle.reasoning.proofs.Calling.{taken, passed-table, valid-passed}
 use Rattle.theory.proofs.HandedRows.{Begins}
+use Rattle.reachable.specs.Arrays.{parentOf, ruleList}
+use Rattle.reachable.specs.Sheet.{contextIn, laid}
+use Rattle.reachable.specs.Grow.{withSets, sheetOf}
+use Rattle.reachable.specs.Known.{DepthsIn, FirstWords, Known}
+use Rattle.evidence.specs.declared.ground.Ground.the-variants.{None, Direct}
+use Rattle.evidence.specs.declared.ground.Both.{Both}
+use Rattle.evidence.specs.Choices.{clashingIn}
+use Rattle.evidence.specs.Grounds.{given, saysYes, InRange, directIn, groundsOn, groundNumbers}
+use Rattle.evidence.proofs.Walking.{context-same, direct-same, direct-numbers}
+use Rattle.evidence.proofs.GroundJoins.{none-range, direct-range, question-yes, question-written, question-in, question-there}
+use Rattle.handed.specs.Emit.{Writable}
+use Rattle.handed.specs.Writer.{wordFor, startOf}
+use Rattle.handed.proofs.Writable.{table-words, writable}
+use Rattle.reasoning.specs.declared.question.Reply.{Reply}
+use Rattle.reasoning.specs.declared.question.Begins.{Begins as Beginning}
+use Rattle.reasoning.specs.Calls.{askable, answerOf, AnswersQuestion}
+use Rattle.reasoning.specs.Lent.{PassedQuestion, LentQuestion, Denied, Told, counterOn}
+use Rattle.reasoning.proofs.CallLaws.{ask-refuses, ask-bars, ask-shows, ask-hands}
+use Rattle.reasoning.proofs.Calling.{passed-sound, passed-fits, passed-laid, passed-says, passed-clash, lent-known, valid-passed}
 use Rattle.reasoning.proofs.QuestionJoins.{askable-asked, counter-begins}
 use Rattle.reasoning.proofs.TableArrays.{arrays-parents, arrays-rules}
-use Rattle.handed.proofs.Writable.{table-words, writable}
+use Rattle.reasoning.proofs.ValidFits.{table-fits}
 
 -- ---- whether a question can be asked
 
@@ -57,123 +66,216 @@ module _ (t : Rules) (kind p q : ℕ) where
 
 pub ruleset askable-laws = (bars-low, bars-high, bars-first, asks-second)
 
--- ---- yes
+-- ---- paths that are asked about are among the 64
 
-module _ (t : Rules) (parent depth table : List ℕ) (clash kind p q : ℕ) (h : Affirmed t parent depth table clash kind p q) where
-  -- what collecting the evidence asks
-  pub yes-requires : Decided parent (t .kind) (t .left) (t .right) (t .paths) (t .rules) depth table clash × (p < t .paths) × (q < t .paths) × (1 ≤ kind) × (kind ≤ 3)
-      × (yesb (parentOf parent) (ruleList (t .kind) (t .left) (t .right) (t .rules)) (t .paths) kind p q ≡ true)
-  yes-requires =
+module _ (t : Rules) (word : t .required < 2 ^ 64) (parent : List ℕ) (kind p q : ℕ) (h : PassedQuestion t parent kind p q) where
+  pub asked-low : (p < 64) × (q < 64)
+  asked-low =
       let a = askable-asked t kind p q (h .can) in
-      (record { known = h .lent .known; clashes = h .clashes }, a .first, a .second, a .low, a .high, h .yes)
+      let s = passed-sound t word parent (h .passed) .parents in
+      (omega (arith, a .first, s .few), omega (arith, a .second, s .few))
 
-  pub yes-put : t .required < 2 ^ 64 → (numbers out : List ℕ) (n : ℕ)
-      → Stored (evidenceNumbers (parentOf parent) (ruleList (t .kind) (t .left) (t .right) (t .rules)) (t .paths) kind p q) 392 (replicate 400 0) 0 numbers n
-      → (w : Written) (r : Reply) (after : List ℕ) → Puts (put (bytesOfAll (wrapped (take n numbers))) out) w after
-      → r ≡ answerOf Reply.Yes Reply.Refused w → AnswersQuestion t kind p q out r after
-  yes-put word numbers out n s w r after f g =
-      ask-shows t kind p q out word (h .lent .passes) (h .can) parent (h .lent .lent) (h .yes) (take n numbers)
-      (taken _ (replicate 400 0) numbers 392 n s (omega arith)) w r after f g
+  -- ---- an implication that is direct
+
+  module _ (sheet : List ℕ) (e : sheet ≡ laid (parentOf parent) (ruleList (t .kind) (t .left) (t .right) (t .rules)) (t .paths)) where
+    pub direct-low : InRange (Direct p q) × InRange None
+    direct-low = (direct-range p q (asked-low .0) (asked-low .1), none-range)
+
+    pub direct-told : (b : Bool) → kind ≡ 1 → b ≡ directIn sheet p q → b ≡ true → (out : List ℕ) (r : Reply) (after : List ℕ)
+        → Told Reply.Yes Reply.Refused (groundNumbers sheet (Direct p q) ++ groundNumbers sheet None) out r after → AnswersQuestion t kind p q out r after
+    unfolding groundNumbers yesb impliesb evidenceNumbers implicationNumbers
+    direct-told b one test z out r after w =
+        ask-shows t kind p q out word (h .passed .passes) (h .can) parent (h .passed .lent)
+        (rw (yesb, eq-eqb kind 1 one, reach))
+        (groundNumbers sheet (Direct p q) ++ groundNumbers sheet None)
+        (rw (append-nil, evidenceNumbers, eq-eqb kind 1 one, implicationNumbers, reach)
+        (direct-numbers (passed-fits t word parent (h .passed)) (passed-laid t word parent (h .passed) sheet e) p q (a-first) (a-second)))
+        (w .written) r after (w .puts) (w .is)
+      where
+        a-first : p < t .paths
+        a-first = askable-asked t kind p q (h .can) .first
+
+        a-second : q < t .paths
+        a-second = askable-asked t kind p q (h .can) .second
+
+        reach : reachb (parentOf parent) (ruleList (t .kind) (t .left) (t .right) (t .rules)) (t .paths) (contextOf (parentOf parent) p q) p q ≡ true
+        reach =
+            sym (direct-same (passed-fits t word parent (h .passed)) (passed-laid t word parent (h .passed) sheet e) p q a-first a-second)
+            ∙ sym test ∙ z
+
+    -- with all sets it is the table's sheet
+    pub grown-asked : (grown : List ℕ) → grown ≡ withSets (t .paths) sheet → Asked t parent grown kind p q
+    unfolding sheetOf
+    grown-asked grown f = record {
+      lent = record { passed = h .passed; laid = f ∙ ap (withSets (t .paths)) e };
+      can = h .can;
+    }
+
+-- ---- by grounds
+
+module _ (t : Rules) (word : t .required < 2 ^ 64) (parent sheet : List ℕ) (kind p q : ℕ) (h : LentQuestion t parent sheet kind p q) where
+  pub settle-low : (p < 64) × (q < 64)
+  settle-low = asked-low t word parent kind p q (record { passed = h .lent .passed; can = h .can })
+
+  module _ (clash : ℕ) (c : clash ≡ clashingIn sheet) (b : Both) (is : b ≡ groundsOn sheet clash kind p q) where
+    a-first : p < t .paths
+    a-first = askable-asked t kind p q (h .can) .first
+
+    a-second : q < t .paths
+    a-second = askable-asked t kind p q (h .can) .second
+
+    low : 1 ≤ kind
+    low = askable-asked t kind p q (h .can) .low
+
+    high : kind ≤ 3
+    high = askable-asked t kind p q (h .can) .high
+
+    some : 0 < t .paths
+    some = passed-sound t word parent (h .lent .passed) .parents .some
+
+    clash-is : clash ≡ clashing (parentOf parent) (ruleList (t .kind) (t .left) (t .right) (t .rules)) (t .paths)
+    clash-is = passed-clash t word parent (h .lent .passed) sheet (h .lent .laid) clash c
+
+    pub settle-range : InRange (b .first) × InRange (b .second)
+    settle-range =
+        rw is (question-in (passed-fits t word parent (h .lent .passed)) some (passed-says t word parent (h .lent .passed) sheet (h .lent .laid))
+        clash clash-is kind p q a-first a-second low high)
+
+    module _ (y : Bool) (test : y ≡ saysYes kind b) where
+      answers : yesb (parentOf parent) (ruleList (t .kind) (t .left) (t .right) (t .rules)) (t .paths) kind p q ≡ y
+      answers =
+          sym (test ∙ ap (saysYes kind) is
+          ∙ question-yes (passed-fits t word parent (h .lent .passed)) some (passed-says t word parent (h .lent .passed) sheet (h .lent .laid))
+          clash clash-is kind p q a-first a-second low high)
+
+      pub settle-yes : y ≡ true → (out : List ℕ) (r : Reply) (after : List ℕ)
+          → Told Reply.Yes Reply.Refused (groundNumbers sheet (b .first) ++ groundNumbers sheet (b .second)) out r after
+          → AnswersQuestion t kind p q out r after
+      settle-yes z out r after w =
+          ask-shows t kind p q out word (h .lent .passed .passes) (h .can) parent (h .lent .passed .lent) (answers ∙ z)
+          (groundNumbers sheet (b .first) ++ groundNumbers sheet (b .second))
+          (rw is (question-written (passed-fits t word parent (h .lent .passed)) some
+          (passed-says t word parent (h .lent .passed) sheet (h .lent .laid)) clash clash-is kind p q a-first a-second low high (answers ∙ z)))
+          (w .written) r after (w .puts) (w .is)
+
+      pub settle-no : y ≡ false → (holds : Bool) → holds ≡ given (b .first) → Denied t parent sheet kind p q holds
+      settle-no z holds e = record {
+        asked = h;
+        denies = answers ∙ z;
+        there = λ k.
+            e ∙ ap (λ (v : Both). given (v .first)) is
+            ∙ question-there (passed-fits t word parent (h .lent .passed)) some (passed-says t word parent (h .lent .passed) sheet (h .lent .laid))
+            clash clash-is kind p q a-first a-second low high (λ d. omega arith) (λ d. omega arith);
+      }
 
 -- ---- no
 
-module _ (t : Rules) (word : t .required < 2 ^ 64) (parent depth table : List ℕ) (kind p q goals top : ℕ) (h : Countered t parent depth table kind p q goals top) where
-  valid : ValidTable t
-  valid = passes-valid t word .0 (h .lent .passes)
+-- what a counter-document begins with, by the kind, in the words of the code
+module _ (sheet : List ℕ) (kind p q : ℕ) (holds : Bool) where
+  pub counter-absence : (one goals top : ℕ) → kind ≡ 2 → top ≡ contextIn sheet p q → one ≡ withPath 0 q → goals ≡ withPath one p
+      → record { goals = goals; top = top } ≡ counterOn sheet kind p q holds
+  unfolding counterOn
+  counter-absence one goals top k e f g = rw (counterOn, eq-eqb kind 2 k, g, f, e)
 
-  begins : (list : List ℕ) × Begins (parentOf parent) (t .paths) list (startOf goals top)
-  begins =
-      let a = askable-asked t kind p q (h .can) in
-      let b = counter-begins t valid kind p q a in (
-        b .goals,
-        subst (λ (s : Start). Begins (parentOf parent) (t .paths) (b .goals) s) (sym (h .begins))
-            (subst (λ (f : ℕ → ℕ). Begins f (t .paths) (b .goals) (startNo f (ruleList (t .kind) (t .left) (t .right) (t .rules)) (t .paths) kind p q))
-            (sym (arrays-parents t valid parent (h .lent .lent)))
-            (subst (λ (l : List _). Begins (parentsOf t) (t .paths) (b .goals) (startNo (parentsOf t) l (t .paths) kind p q)) (sym (arrays-rules t))
-            (b .begins))),
-      )
+  module _ (n : kind ≡ 2 → ⊥) where
+    pub counter-second : (goals : ℕ) → kind ≡ 3 → holds ≡ true → goals ≡ withPath 0 q → record { goals = goals; top = q } ≡ counterOn sheet kind p q holds
+    unfolding counterOn
+    counter-second goals k z e = rw (counterOn, ne-eqb kind 2 n, eq-eqb kind 3 k, z, e)
 
-  pub counter-writable : Writable parent depth table (t .paths) goals top
-  counter-writable =
-      writable parent (t .kind) (t .left) (t .right) (t .paths) (t .rules) depth table (h .lent .known) goals top (begins .1)
+    pub counter-first : (goals : ℕ) → kind ≡ 3 → holds ≡ false → goals ≡ withPath 0 p → record { goals = goals; top = p } ≡ counterOn sheet kind p q holds
+    unfolding counterOn
+    counter-first goals k z e = rw (counterOn, ne-eqb kind 2 n, eq-eqb kind 3 k, z, e)
 
-  pub counter-put : (out : List ℕ) (w : Written) (r : Reply) (after : List ℕ)
-      → Puts (put (bytesOfAll (handedNumbers (parentOf parent) (t .paths) (wordFor depth table (t .paths)) (startOf goals top))) out) w after
-      → r ≡ answerOf Reply.No Reply.Refused w → AnswersQuestion t kind p q out r after
-  counter-put out w r after f g =
-      ask-hands t kind p q out word (h .lent .passes) (h .can) parent (h .lent .lent)
-      (table-words parent (t .kind) (t .left) (t .right) (t .paths) (t .rules) depth table (h .lent .known))
-      (h .denies) w r after
-      (subst (λ (s : Start). Puts (put (bytesOfAll (handedNumbers (parentOf parent) (t .paths) (wordFor depth table (t .paths)) s)) out) w after) (h .begins) f)
-      g
+    pub counter-implication : (goals : ℕ) → (kind ≡ 3 → ⊥) → goals ≡ withPath 0 p → record { goals = goals; top = p } ≡ counterOn sheet kind p q holds
+    unfolding counterOn
+    counter-implication goals m e = rw (counterOn, ne-eqb kind 2 n, ne-eqb kind 3 m, e)
 
-module _ (t : Rules) (parent depth table : List ℕ) (clash kind p q : ℕ) (h : Denied t parent depth table clash kind p q) where
-  -- what the test of the first direction asks
-  pub no-requires : Decided parent (t .kind) (t .left) (t .right) (t .paths) (t .rules) depth table clash × (p < t .paths) × (q < t .paths)
-  no-requires =
-      let a = askable-asked t kind p q (h .can) in
-      (record { known = h .lent .known; clashes = h .clashes }, a .first, a .second)
+pub ruleset counter-laws = (counter-absence, counter-second, counter-first, counter-implication)
 
-  -- what the context asks
-  pub no-context : Descending (parentOf parent) × (p < 64) × (q < 64)
-  no-context =
-      let a = askable-asked t kind p q (h .can) in
-      let s = h .lent .known .sound .parents in
-      (s .descending, omega (arith, a .first, s .few), omega (arith, a .second, s .few))
+module _ (t : Rules) (word : t .required < 2 ^ 64) (parent sheet : List ℕ) (kind p q : ℕ) (holds : Bool) (h : Denied t parent sheet kind p q holds) where
+  pub no-low : (p < 64) × (q < 64)
+  no-low = settle-low t word parent sheet kind p q (h .asked)
 
-  countered : (goals top : ℕ) → startOf goals top ≡ startNo (parentOf parent) (ruleList (t .kind) (t .left) (t .right) (t .rules)) (t .paths) kind p q
-      → Countered t parent depth table kind p q goals top
-  countered goals top e = record { lent = h .lent; can = h .can; denies = h .denies; begins = e }
+  module _ (b : Beginning) (is : b ≡ counterOn sheet kind p q holds) where
+    valid : ValidTable t
+    valid = passes-valid t word .0 (h .asked .lent .passed .passes)
 
-  -- what the counter-document begins with, by the kind
-  pub no-implication : (goals : ℕ) → kind ≡ 1 → goals ≡ withPath 0 p → Countered t parent depth table kind p q goals p
-  unfolding startNo
-  no-implication goals e f = countered goals p (rw (startNo, eq-eqb kind 1 e) (ap (λ (g : ℕ). startOf g p) f))
+    -- the code's beginning is the counter-document's
+    start-is : startOf (b .goals) (b .top)
+        ≡ startNo (parentOf parent) (ruleList (t .kind) (t .left) (t .right) (t .rules)) (t .paths) kind p q
+    unfolding counterOn startNo startBoth
+    start-is = ap (λ (v : Beginning). startOf (v .goals) (v .top)) is ∙ pick (ℕ-discrete kind 1) (ℕ-discrete kind 2)
+      where
+        asked-of : (p < t .paths) × (q < t .paths) × (1 ≤ kind) × (kind ≤ 3)
+        asked-of = let a = askable-asked t kind p q (h .asked .can) in (a .first, a .second, a .low, a .high)
 
-  pub no-absence : (one goals top : ℕ) → (kind ≡ 1 → ⊥) → kind ≡ 2 → one ≡ withPath 0 q → goals ≡ withPath one p → top ≡ contextOf (parentOf parent) p q
-      → Countered t parent depth table kind p q goals top
-  unfolding startNo
-  no-absence one goals top d e i f g =
-      countered goals top
-      (rw (startNo, ne-eqb kind 1 d, eq-eqb kind 2 e)
-      (λ j. startOf ((f ∙ ap (λ (w : ℕ). withPath w p) i) j) (g j)))
+        same : contextIn sheet p q ≡ contextOf (parentOf parent) p q
+        same =
+            context-same (passed-fits t word parent (h .asked .lent .passed))
+            (passed-says t word parent (h .asked .lent .passed) sheet (h .asked .lent .laid) .laid) p q (asked-of .0) (asked-of .1)
 
-  module _ (test : Bool) (is : test ≡ impliesb (parentOf parent) (ruleList (t .kind) (t .left) (t .right) (t .rules)) (t .paths) p q)
-      (d : kind ≡ 1 → ⊥) (e : kind ≡ 2 → ⊥) where
-    pub no-back : (goals : ℕ) → test ≡ true → goals ≡ withPath 0 q → Countered t parent depth table kind p q goals q
-    unfolding startNo startBoth
-    no-back goals b f =
-        countered goals q
-        (rw (startNo, ne-eqb kind 1 d, ne-eqb kind 2 e, startBoth, let z : impliesb (parentOf parent) (ruleList (t .kind) (t .left) (t .right) (t .rules)) (t .paths) p q ≡ true = sym is ∙ b in z)
-        (ap (λ (g : ℕ). startOf g q) f))
+        to-start : (v : Beginning) → v ≡ counterOn sheet kind p q holds
+            → startOf (v .goals) (v .top) ≡ startNo (parentOf parent) (ruleList (t .kind) (t .left) (t .right) (t .rules)) (t .paths) kind p q
+            → startOf (counterOn sheet kind p q holds .goals) (counterOn sheet kind p q holds .top)
+            ≡ startNo (parentOf parent) (ruleList (t .kind) (t .left) (t .right) (t .rules)) (t .paths) kind p q
+        to-start v e f = ap (λ (u : Beginning). startOf (u .goals) (u .top)) (sym e) ∙ f
 
-    pub no-there : (goals : ℕ) → test ≡ false → goals ≡ withPath 0 p → Countered t parent depth table kind p q goals p
-    unfolding startNo startBoth
-    no-there goals b f =
-        countered goals p
-        (rw (startNo, ne-eqb kind 1 d, ne-eqb kind 2 e, startBoth, let z : impliesb (parentOf parent) (ruleList (t .kind) (t .left) (t .right) (t .rules)) (t .paths) p q ≡ false = sym is ∙ b in z)
-        (ap (λ (g : ℕ). startOf g p) f))
+        way : (v : Bool) → kind ≡ 3 → (kind ≡ 1 → ⊥) → (kind ≡ 2 → ⊥) → holds ≡ v
+            → startOf (counterOn sheet kind p q holds .goals) (counterOn sheet kind p q holds .top)
+            ≡ startNo (parentOf parent) (ruleList (t .kind) (t .left) (t .right) (t .rules)) (t .paths) kind p q
+        way true k n m e =
+            let z : impliesb (parentOf parent) (ruleList (t .kind) (t .left) (t .right) (t .rules)) (t .paths) p q ≡ true = sym (h .there k) ∙ e in
+            to-start (record { goals = withPath 0 q; top = q }) (counter-second sheet kind p q holds m (withPath 0 q) k e refl)
+            (rw (startNo, ne-eqb kind 1 n, ne-eqb kind 2 m, startBoth, z))
+        way false k n m e =
+            let z : impliesb (parentOf parent) (ruleList (t .kind) (t .left) (t .right) (t .rules)) (t .paths) p q ≡ false = sym (h .there k) ∙ e in
+            to-start (record { goals = withPath 0 p; top = p }) (counter-first sheet kind p q holds m (withPath 0 p) k e refl)
+            (rw (startNo, ne-eqb kind 1 n, ne-eqb kind 2 m, startBoth, z))
+
+        pick : Dec (kind ≡ 1) → Dec (kind ≡ 2)
+            → startOf (counterOn sheet kind p q holds .goals) (counterOn sheet kind p q holds .top)
+            ≡ startNo (parentOf parent) (ruleList (t .kind) (t .left) (t .right) (t .rules)) (t .paths) kind p q
+        pick (yes e) d =
+            to-start (record { goals = withPath 0 p; top = p })
+            (counter-implication sheet kind p q holds (λ z. omega arith) (withPath 0 p) (λ z. omega arith) refl)
+            (rw (startNo, eq-eqb kind 1 e))
+        pick (no n) (yes e) =
+            to-start (record { goals = withPath (withPath 0 q) p; top = contextIn sheet p q })
+            (counter-absence sheet kind p q holds (withPath 0 q) (withPath (withPath 0 q) p) (contextIn sheet p q) e refl refl refl)
+            (rw (startNo, ne-eqb kind 1 n, eq-eqb kind 2 e, same))
+        pick (no n) (no m) = way holds (omega (arith, n, m, asked-of .2, asked-of .3)) n m refl
+
+    begins : (list : List ℕ) × Begins (parentOf parent) (t .paths) list (startOf (b .goals) (b .top))
+    begins =
+        let a = askable-asked t kind p q (h .asked .can) in
+        let n = counter-begins t valid kind p q a in (
+          n .goals,
+          subst (λ (s : Start). Begins (parentOf parent) (t .paths) (n .goals) s) (sym start-is)
+              (subst (λ (f : ℕ → ℕ). Begins f (t .paths) (n .goals) (startNo f (ruleList (t .kind) (t .left) (t .right) (t .rules)) (t .paths) kind p q))
+              (sym (arrays-parents t valid parent (h .asked .lent .passed .lent)))
+              (subst (λ (l : List _). Begins (parentsOf t) (t .paths) (n .goals) (startNo (parentsOf t) l (t .paths) kind p q)) (sym (arrays-rules t))
+              (n .begins))),
+        )
+
+    module _ (depth table : List ℕ) (depths : DepthsIn parent (t .paths) depth) (first : FirstWords sheet 512 table) where
+      known : Known parent (t .kind) (t .left) (t .right) (t .paths) (t .rules) depth table
+      known = lent-known t word parent sheet (h .asked .lent) depth table depths first
+
+      pub counter-writable : Writable parent depth table (t .paths) (b .goals) (b .top)
+      counter-writable =
+          writable parent (t .kind) (t .left) (t .right) (t .paths) (t .rules) depth table known (b .goals) (b .top) (begins .1)
+
+      pub counter-put : (out : List ℕ) (w : Written) (r : Reply) (after : List ℕ)
+          → Puts (put (bytesOfAll (handedNumbers (parentOf parent) (t .paths) (wordFor depth table (t .paths)) (startOf (b .goals) (b .top)))) out) w after
+          → r ≡ answerOf Reply.No Reply.Refused w → AnswersQuestion t kind p q out r after
+      counter-put out w r after f g =
+          ask-hands t kind p q out word (h .asked .lent .passed .passes) (h .asked .can) parent (h .asked .lent .passed .lent)
+          (table-words parent (t .kind) (t .left) (t .right) (t .paths) (t .rules) depth table known)
+          (h .denies) w r after
+          (subst (λ (s : Start). Puts (put (bytesOfAll (handedNumbers (parentOf parent) (t .paths) (wordFor depth table (t .paths)) s)) out) w after) start-is f)
+          g
 
 -- ---- a question that can be asked, of a table that passed its test
-
--- what the answer asks
-pub asked-requires : (t : Rules) → t .required < 2 ^ 64 → (parent : List ℕ) (kind p q : ℕ) → PassedQuestion t parent kind p q → (depth table : List ℕ)
-    → Reaches parent (t .kind) (t .left) (t .right) (t .paths) (t .rules) depth table → (clash : ℕ)
-    → clash ≡ clashing (parentOf parent) (ruleList (t .kind) (t .left) (t .right) (t .rules)) (t .paths)
-    → Decided parent (t .kind) (t .left) (t .right) (t .paths) (t .rules) depth table clash × (p < t .paths) × (q < t .paths)
-asked-requires t word parent kind p q h depth table r clash e =
-    let a = askable-asked t kind p q (h .can) in
-    (record { known = passed-table t word parent (h .passed) depth table r .known; clashes = e }, a .first, a .second)
-
-module _ (t : Rules) (word : t .required < 2 ^ 64) (parent : List ℕ) (kind p q : ℕ) (h : PassedQuestion t parent kind p q) (depth table : List ℕ)
-    (r : Reaches parent (t .kind) (t .left) (t .right) (t .paths) (t .rules) depth table) (clash : ℕ)
-    (e : clash ≡ clashing (parentOf parent) (ruleList (t .kind) (t .left) (t .right) (t .rules)) (t .paths)) (test : Bool)
-    (g : test ≡ yesb (parentOf parent) (ruleList (t .kind) (t .left) (t .right) (t .rules)) (t .paths) kind p q) where
-  pub asked-affirmed : test ≡ true → Affirmed t parent depth table clash kind p q
-  asked-affirmed b = record { lent = passed-table t word parent (h .passed) depth table r; clashes = e; can = h .can; yes = sym g ∙ b }
-
-  pub asked-denied : test ≡ false → Denied t parent depth table clash kind p q
-  asked-denied b = record { lent = passed-table t word parent (h .passed) depth table r; clashes = e; can = h .can; denies = sym g ∙ b }
 
 -- the kind of a question that can be asked fits a byte
 module _ (t : Rules) (kind p q : ℕ) (can : askable t kind p q ≡ true) where

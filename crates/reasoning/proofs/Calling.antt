@@ -5,89 +5,145 @@ use mathlib.Core.Bool.{Bool, true, false, not}
 use borrow.Author.Tests.{not-true, not-false}
 use mathlib.Core.List.{List, _∷_}
 use native.Mathlib.Omega.{arith}
-use lib.ListN.{length, take, drop, replicate}
+use lib.ListN.{length, take, drop}
 use lib.Seq.{length-sets, sets-eq, take-at}
 use Rattle.files.specs.declared.rules.Rules.{Rules}
 use Rattle.files.specs.declared.write.Written.{Written}
-use Rattle.files.specs.declared.write.Written.the-variants.{Refused}
 use Rattle.files.specs.Number.{bytesOfAll}
 use Rattle.files.specs.Rules.{rulesOf, parentsIn, ValidTable}
 use Rattle.files.specs.TableTest.{tablePasses}
 use Rattle.files.specs.Writing.{put, wrapped, Puts}
 use Rattle.files.specs.Sets.{withPath}
 use Rattle.files.proofs.TableTests.{passes-valid}
-use Rattle.reasoning.specs.declared.consistency.Verdict.{Verdict}
-use Rattle.reachable.specs.Arrays.{parentOf, ruleList, Parents, Sound}
 use Rattle.documents.specs.Judgement.{parentsOf}
-use Rattle.reasoning.specs.Calls.{answerOf, DecidesConsistency}
-use Rattle.handed.specs.Emit.{Writable}
-use Rattle.theory.specs.Evidence.{consistentb, inconsistentNumbers}
+use Rattle.theory.specs.Reachable.{Fits}
+use Rattle.theory.specs.Evidence.{consistentb}
 use Rattle.theory.specs.Decide.{clashing}
-use Rattle.reachable.specs.Known.{Reaches, Known}
-use Rattle.evidence.specs.Layers.{Stored}
-use Rattle.evidence.specs.Words.{Decided}
 use Rattle.theory.specs.Handed.{handedNumbers}
-use Rattle.reasoning.specs.Lent.{Passed, LentTable, Witnessed, Conflicting}
-use Rattle.handed.specs.Writer.{wordFor, startOf}
-use Rattle.reasoning.proofs.CallLaws.{consistency-refuses, consistency-hands, consistency-shows}
-use Rattle.reasoning.proofs.TableArrays.{arrays-sound}
-use Rattle.reasoning.proofs.ConsistencyJoins.{asked-begins}
 use Rattle.theory.proofs.HandedRows.{Begins}
-use Rattle.reasoning.proofs.TableArrays.{arrays-parents}
+use Rattle.reachable.specs.Arrays.{parentOf, ruleList, Parents, Sound}
+use Rattle.reachable.specs.Sheet.{laid}
+use Rattle.reachable.specs.SheetWords.{LaidOut, Says}
+use Rattle.reachable.specs.Grow.{sheetOf}
+use Rattle.reachable.specs.Known.{DepthsIn, FirstWords, Known}
+use Rattle.reachable.proofs.Filling.{sound-fits}
+use Rattle.reachable.proofs.RuleRows.{Kinds}
+use Rattle.reachable.proofs.Sheets.{laid-out, sheet-says}
+use Rattle.reachable.proofs.Reaching.{table-reaches}
+use Rattle.evidence.specs.declared.ground.Ground.{Ground}
+use Rattle.evidence.specs.Stored.{Stored}
+use Rattle.evidence.specs.Choices.{clashingIn}
+use Rattle.evidence.specs.Grounds.{given, InRange, conflictGround, groundNumbers}
+use Rattle.evidence.proofs.Joins.{clashing-same}
+use Rattle.evidence.proofs.GroundJoins.{conflict-given, conflict-written, conflict-in}
+use Rattle.handed.specs.Emit.{Writable}
+use Rattle.handed.specs.Writer.{wordFor, startOf}
 use Rattle.handed.proofs.Writable.{table-words, writable}
-
-module _ (t : Rules) (word : t .required < 2 ^ 64) (parent depth table : List ℕ) (asked : ℕ) (h : Witnessed t parent depth table asked) where
-  valid : ValidTable t
-  valid = passes-valid t word .0 (h .lent .passes)
-
-  begins : Begins (parentOf parent) (t .paths) (0 ∷ rulesOf t .required) (startOf asked 0)
-  begins =
-      subst (λ (p : ℕ → ℕ). Begins p (t .paths) (0 ∷ rulesOf t .required) (startOf asked 0)) (sym (arrays-parents t valid parent (h .lent .lent)))
-      (subst (λ (a : ℕ). Begins (parentsOf t) (t .paths) (0 ∷ rulesOf t .required) (startOf a 0)) (sym (h .asked-is)) (asked-begins t word valid))
-
-  pub witness-writable : Writable parent depth table (t .paths) asked 0
-  witness-writable =
-      writable parent (t .kind) (t .left) (t .right) (t .paths) (t .rules) depth table (h .lent .known) asked 0 begins
-
-  pub witness-put : (out : List ℕ) (w : Written) (r : Verdict) (after : List ℕ)
-      → Puts (put (bytesOfAll (handedNumbers (parentOf parent) (t .paths) (wordFor depth table (t .paths)) (startOf asked 0))) out) w after
-      → r ≡ answerOf Verdict.Consistent Verdict.Refused w → DecidesConsistency t out r after
-  witness-put out w r after p g =
-      consistency-hands t out word (h .lent .passes) parent (h .lent .lent)
-      (table-words parent (t .kind) (t .left) (t .right) (t .paths) (t .rules) depth table (h .lent .known))
-      (subst (λ (a : ℕ). consistentb (parentOf parent) (ruleList (t .kind) (t .left) (t .right) (t .rules)) (t .paths) a ≡ true) (h .asked-is) (h .agrees))
-      w r after
-      (subst (λ (a : ℕ). Puts (put (bytesOfAll (handedNumbers (parentOf parent) (t .paths) (wordFor depth table (t .paths)) (startOf a 0))) out) w after)
-      (h .asked-is) p)
-      g
+use Rattle.reasoning.specs.declared.consistency.Verdict.{Verdict}
+use Rattle.reasoning.specs.Calls.{answerOf, DecidesConsistency}
+use Rattle.reasoning.specs.Lent.{Passed, LentSheet, Witnessed, Told}
+use Rattle.reasoning.proofs.CallLaws.{consistency-refuses, consistency-hands, consistency-shows}
+use Rattle.reasoning.proofs.ConsistencyJoins.{asked-begins}
+use Rattle.reasoning.proofs.TableArrays.{arrays-sound, arrays-parents, arrays-rules}
 
 -- ---- a table that passed its test
 
 module _ (t : Rules) (word : t .required < 2 ^ 64) (parent : List ℕ) (h : Passed t parent) where
+  valid : ValidTable t
+  valid = passes-valid t word .0 (h .passes)
+
   pub passed-sound : Sound parent (t .kind) (t .left) (t .right) (t .paths) (t .rules)
-  passed-sound = arrays-sound t (passes-valid t word .0 (h .passes)) parent (h .lent)
+  passed-sound = arrays-sound t valid parent (h .lent)
 
   pub passed-parents : Parents parent (t .paths)
   passed-parents = passed-sound .parents
 
-  module _ (depth table : List ℕ) (r : Reaches parent (t .kind) (t .left) (t .right) (t .paths) (t .rules) depth table) where
-    pub passed-known : Known parent (t .kind) (t .left) (t .right) (t .paths) (t .rules) depth table
-    passed-known = record { sound = passed-sound; reaches = r }
+  pub passed-counts : (t .paths ≤ 64) × (t .rules ≤ 256)
+  passed-counts = (passed-sound .parents .few, passed-sound .fewRules)
 
-    pub passed-table : LentTable t parent depth table
-    passed-table = record { passes = h .passes; lent = h .lent; known = passed-known }
+  pub passed-fits : Fits (parentOf parent) (ruleList (t .kind) (t .left) (t .right) (t .rules)) (t .paths)
+  passed-fits = sound-fits passed-sound
 
-    module _ (clash : ℕ) (e : clash ≡ clashing (parentOf parent) (ruleList (t .kind) (t .left) (t .right) (t .rules)) (t .paths)) where
-      pub passed-decided : Decided parent (t .kind) (t .left) (t .right) (t .paths) (t .rules) depth table clash
-      passed-decided = record { known = passed-known; clashes = e }
+  kinds : Kinds (ruleList (t .kind) (t .left) (t .right) (t .rules))
+  kinds r ru n = omega (arith, valid .valid .kind r ru (rw (arrays-rules t) at n) .1)
 
-      module _ (asked : ℕ) (f : asked ≡ withPath (t .required) 0) (test : Bool)
-          (g : test ≡ consistentb (parentOf parent) (ruleList (t .kind) (t .left) (t .right) (t .rules)) (t .paths) asked) where
-        pub passed-witnessed : test ≡ true → Witnessed t parent depth table asked
-        passed-witnessed b = record { lent = passed-table; asked-is = f; agrees = sym g ∙ b }
+  -- its sheet says what the table says
+  pub passed-laid : (sheet : List ℕ) → sheet ≡ laid (parentOf parent) (ruleList (t .kind) (t .left) (t .right) (t .rules)) (t .paths)
+      → LaidOut (parentOf parent) (ruleList (t .kind) (t .left) (t .right) (t .rules)) (t .paths) sheet
+  passed-laid sheet e = rw e (laid-out passed-fits (passed-sound .parents .some) kinds)
 
-        pub passed-conflicting : test ≡ false → Conflicting t parent depth table clash asked
-        passed-conflicting b = record { lent = passed-table; clashes = e; asked-is = f; conflicts = sym g ∙ b }
+  module _ (sheet : List ℕ) (e : sheet ≡ sheetOf (parentOf parent) (ruleList (t .kind) (t .left) (t .right) (t .rules)) (t .paths)) where
+    pub passed-says : Says (parentOf parent) (ruleList (t .kind) (t .left) (t .right) (t .rules)) (t .paths) sheet
+    passed-says = rw e (sheet-says passed-fits (passed-sound .parents .some) (passed-sound .parents .shallow) kinds)
+
+    pub passed-clash : (clash : ℕ) → clash ≡ clashingIn sheet
+        → clash ≡ clashing (parentOf parent) (ruleList (t .kind) (t .left) (t .right) (t .rules)) (t .paths)
+    passed-clash clash c = c ∙ clashing-same passed-fits (passed-sound .parents .some) passed-says
+
+    module _ (clash : ℕ) (c : clash ≡ clashingIn sheet) (needed : ℕ) (f : needed ≡ withPath (t .required) 0) (g : Ground)
+        (is : g ≡ conflictGround sheet clash needed) where
+      pub passed-range : InRange g
+      passed-range = rw is (conflict-in passed-fits (passed-sound .parents .some) passed-says needed clash (passed-clash clash c))
+
+      module _ (b : Bool) (test : b ≡ given g) where
+        agrees : not (consistentb (parentOf parent) (ruleList (t .kind) (t .left) (t .right) (t .rules)) (t .paths) needed) ≡ b
+        agrees =
+            sym (test ∙ ap given is ∙ conflict-given passed-fits (passed-sound .parents .some) passed-says needed clash (passed-clash clash c))
+
+        pub passed-witnessed : b ≡ false → Witnessed t parent sheet needed
+        passed-witnessed z = record { lent = record { passed = h; laid = e }; needed-is = f; agrees = not-false _ (agrees ∙ z) }
+
+        pub passed-conflict : (out : List ℕ) (r : Verdict) (after : List ℕ) → b ≡ true
+            → Told Verdict.Inconsistent Verdict.Refused (groundNumbers sheet g) out r after → DecidesConsistency t out r after
+        passed-conflict out r after z w =
+            let no : consistentb (parentOf parent) (ruleList (t .kind) (t .left) (t .right) (t .rules)) (t .paths) needed ≡ false =
+            not-true _ (agrees ∙ z) in
+            consistency-shows t out word (h .passes) parent (h .lent)
+            (rw f at no)
+            (groundNumbers sheet g)
+            (rw f at (ap (groundNumbers sheet) is
+            ∙ conflict-written passed-fits (passed-sound .parents .some) passed-says needed clash (passed-clash clash c) no))
+            (w .written) r after (w .puts) (w .is)
+
+-- ---- a table whose sheet is lent, with the table of its reachable sets
+
+module _ (t : Rules) (word : t .required < 2 ^ 64) (parent sheet : List ℕ) (h : LentSheet t parent sheet) (depth table : List ℕ)
+    (depths : DepthsIn parent (t .paths) depth) (first : FirstWords sheet 512 table) where
+  pub lent-known : Known parent (t .kind) (t .left) (t .right) (t .paths) (t .rules) depth table
+  lent-known = record {
+    sound = passed-sound t word parent (h .passed);
+    reaches = table-reaches parent (t .kind) (t .left) (t .right) (t .paths) (t .rules) depth table sheet
+        (passed-sound t word parent (h .passed)) depths (h .laid) first;
+  }
+
+module _ (t : Rules) (word : t .required < 2 ^ 64) (parent sheet : List ℕ) (needed : ℕ) (h : Witnessed t parent sheet needed)
+    (depth table : List ℕ) (depths : DepthsIn parent (t .paths) depth) (first : FirstWords sheet 512 table) where
+  known : Known parent (t .kind) (t .left) (t .right) (t .paths) (t .rules) depth table
+  known = lent-known t word parent sheet (h .lent) depth table depths first
+
+  table-valid : ValidTable t
+  table-valid = passes-valid t word .0 (h .lent .passed .passes)
+
+  begins : Begins (parentOf parent) (t .paths) (0 ∷ rulesOf t .required) (startOf needed 0)
+  begins =
+      subst (λ (p : ℕ → ℕ). Begins p (t .paths) (0 ∷ rulesOf t .required) (startOf needed 0))
+      (sym (arrays-parents t table-valid parent (h .lent .passed .lent)))
+      (subst (λ (a : ℕ). Begins (parentsOf t) (t .paths) (0 ∷ rulesOf t .required) (startOf a 0)) (sym (h .needed-is)) (asked-begins t word table-valid))
+
+  pub witness-writable : Writable parent depth table (t .paths) needed 0
+  witness-writable = writable parent (t .kind) (t .left) (t .right) (t .paths) (t .rules) depth table known needed 0 begins
+
+  pub witness-put : (out : List ℕ) (w : Written) (r : Verdict) (after : List ℕ)
+      → Puts (put (bytesOfAll (handedNumbers (parentOf parent) (t .paths) (wordFor depth table (t .paths)) (startOf needed 0))) out) w after
+      → r ≡ answerOf Verdict.Consistent Verdict.Refused w → DecidesConsistency t out r after
+  witness-put out w r after p g =
+      consistency-hands t out word (h .lent .passed .passes) parent (h .lent .passed .lent)
+      (table-words parent (t .kind) (t .left) (t .right) (t .paths) (t .rules) depth table known)
+      (subst (λ (a : ℕ). consistentb (parentOf parent) (ruleList (t .kind) (t .left) (t .right) (t .rules)) (t .paths) a ≡ true) (h .needed-is) (h .agrees))
+      w r after
+      (subst (λ (a : ℕ). Puts (put (bytesOfAll (handedNumbers (parentOf parent) (t .paths) (wordFor depth table (t .paths)) (startOf a 0))) out) w after)
+      (h .needed-is) p)
+      g
 
 -- ---- evidence that was collected
 
@@ -97,18 +153,14 @@ taken ns before after most n s room =
     ap (take n) (s .numbers ∙ sets-eq ns before 0 few)
     ∙ take-at ns (drop (0 + length ns) before) n (omega (arith, s .end))
 
-module _ (t : Rules) (word : t .required < 2 ^ 64) (parent depth table : List ℕ) (clash asked : ℕ) (h : Conflicting t parent depth table clash asked) where
-  pub conflict-put : (numbers out : List ℕ) (n : ℕ)
-      → Stored (inconsistentNumbers (parentOf parent) (ruleList (t .kind) (t .left) (t .right) (t .rules)) (t .paths) asked) 199 (replicate 400 0) 0 numbers n
-      → (w : Written) (r : Verdict) (after : List ℕ) → Puts (put (bytesOfAll (wrapped (take n numbers))) out) w after
-      → r ≡ answerOf Verdict.Inconsistent Verdict.Refused w → DecidesConsistency t out r after
-  conflict-put numbers out n s w r after p g =
-      consistency-shows t out word (h .lent .passes) parent (h .lent .lent)
-      (subst (λ (a : ℕ). consistentb (parentOf parent) (ruleList (t .kind) (t .left) (t .right) (t .rules)) (t .paths) a ≡ false) (h .asked-is) (h .conflicts))
-      (take n numbers)
-      (taken _ (replicate 400 0) numbers 199 n s (omega arith)
-      ∙ ap (inconsistentNumbers (parentOf parent) (ruleList (t .kind) (t .left) (t .right) (t .rules)) (t .paths)) (h .asked-is))
-      w r after p g
+pub told : {A : Type 0} (done : ℕ → A) (refused : ℕ → ℕ → A) (ns before numbers out : List ℕ) (most n : ℕ) → Stored ns most before 0 numbers n → most ≤ length before
+    → (w : Written) (r : A) (after : List ℕ) → Puts (put (bytesOfAll (wrapped (take n numbers))) out) w after → r ≡ answerOf done refused w
+    → Told done refused ns out r after
+told done refused ns before numbers out most n s room w r after p g = record {
+  written = w;
+  puts = rw (taken ns before numbers most n s room) at p;
+  is = g;
+}
 
 -- as many numbers are lent as were collected
 pub lent-some : (ns before after : List ℕ) (most n : ℕ) → Stored ns most before 0 after n → most ≤ length before → n ≡ length (take n after)

@@ -1,10 +1,13 @@
 // Whether rules are consistent with the required paths.
 ghost use mathlib.Core.Path.{_≡_};
+ghost use Rattle.evidence.specs.Grounds.{InRange, groundNumbers};
 ghost use Rattle.reasoning.specs.Calls.{answerOf, DecidesConsistency};
-ghost use Rattle.reasoning.specs.Lent.{Passed, Witnessed, Conflicting};
+ghost use Rattle.reasoning.specs.Lent.{Passed, Witnessed, Told};
 use evidence::choose::clashing;
-use evidence::conflict::put_inconsistent;
-use evidence::decide::consistent;
+use evidence::collect::put_ground;
+use evidence::decide::conflict;
+use evidence::ground::Ground;
+use evidence::ground::given;
 use files::rules::Rules;
 use files::rules::parents;
 use files::sets;
@@ -12,8 +15,10 @@ use files::valid::valid_table;
 use files::write::Written;
 use files::write::put_numbers;
 use handed::document::write_document;
+use reachable::grow::sheet_of;
 use reachable::reach::depths;
 use reachable::reach::reach_table;
+use reachable::sheet::WORDS;
 
 // Consistent with a document of so many bytes, inconsistent with evidence of so many bytes, or the refusal's number and place.
 pub enum Verdict {
@@ -46,47 +51,25 @@ fn shown(w: Written) -> Verdict
 fn put_witness(
     rules: Rules,
     parent: &[u8; 64],
-    depth: &[u8; 64],
-    table: &[u64; 512],
-    asked: u64,
+    sheet: &[u64; WORDS],
+    needed: u64,
     out: &mut [u8],
 ) -> Verdict
-    requires { ⌜ Witnessed rules (now parent) (now depth) (now table) asked ⌝ }
+    requires { ⌜ Witnessed rules (now parent) (now sheet) needed ⌝ }
     ensures { λ r. ⌜ DecidesConsistency rules (now (out .entry)) r (now (out .exit)) ⌝ }
 {
-    witnessed(write_document(parent, depth, table, rules.paths, asked, 0, out))
+    let depth = depths(parent, rules.paths);
+    let table = reach_table(sheet);
+    witnessed(write_document(parent, &depth, &table, rules.paths, needed, 0, out))
 }
 
 // An inconsistent set: its evidence is put into the buffer.
-fn put_conflict(
-    rules: Rules,
-    parent: &[u8; 64],
-    depth: &[u8; 64],
-    table: &[u64; 512],
-    clash: u64,
-    asked: u64,
-    out: &mut [u8],
-) -> Verdict
-    requires { ⌜ Conflicting rules (now parent) (now depth) (now table) clash asked ⌝ }
-    ensures { λ r. ⌜ DecidesConsistency rules (now (out .entry)) r (now (out .exit)) ⌝ }
+fn put_conflict(sheet: &[u64; WORDS], g: Ground, out: &mut [u8]) -> Verdict
+    requires { ⌜ InRange g ⌝ }
+    ensures { λ r. ⌜ Told Verdict.Inconsistent Verdict.Refused (groundNumbers (now (sheet .entry)) g) (now (out .entry)) r (now (out .exit)) ⌝ }
 {
-    let kind = rules.kind;
-    let left = rules.left;
-    let right = rules.right;
     let mut numbers = [0u32; 400];
-    let n = put_inconsistent(
-        parent,
-        &kind,
-        &left,
-        &right,
-        rules.paths,
-        rules.rules,
-        depth,
-        table,
-        clash,
-        asked,
-        &mut numbers,
-    );
+    let n = put_ground(sheet, g, &mut numbers, 0);
     shown(put_numbers(&numbers[..n], out))
 }
 
@@ -98,27 +81,13 @@ fn decide(rules: Rules, parent: &[u8; 64], out: &mut [u8]) -> Verdict
     let kind = rules.kind;
     let left = rules.left;
     let right = rules.right;
-    let count = rules.paths;
-    let many = rules.rules;
-    let depth = depths(parent, count);
-    let table = reach_table(parent, &kind, &left, &right, count, many, &depth);
-    let clash = clashing(parent, &kind, &left, &right, count, many, &depth, &table);
-    let asked = sets::with(rules.required, 0);
-    if consistent(
-        parent,
-        &kind,
-        &left,
-        &right,
-        count,
-        many,
-        &depth,
-        &table,
-        clash,
-        asked,
-    ) {
-        return put_witness(rules, parent, &depth, &table, asked, out);
+    let sheet = sheet_of(parent, &kind, &left, &right, rules.paths, rules.rules);
+    let needed = sets::with(rules.required, 0);
+    let g = conflict(&sheet, clashing(&sheet), needed);
+    if given(g) {
+        return put_conflict(&sheet, g, out);
     }
-    put_conflict(rules, parent, &depth, &table, clash, asked, out)
+    put_witness(rules, parent, &sheet, needed, out)
 }
 
 // Whether the rules are consistent with the required paths: a witness or the evidence is put into the buffer.

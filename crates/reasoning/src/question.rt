@@ -1,11 +1,18 @@
 // Questions to the rules.
+ghost use Prim.Native.Nat.{_<_};
 ghost use mathlib.Core.Path.{_≡_};
+ghost use mathlib.Core.List.{_++_};
+ghost use Rattle.evidence.specs.Grounds.{InRange, groundNumbers};
 ghost use Rattle.reasoning.specs.Calls.{answerOf, askable, AnswersQuestion};
-ghost use Rattle.reasoning.specs.Lent.{Affirmed, Denied, Countered, PassedQuestion};
+ghost use Rattle.reasoning.specs.Lent.{Told, counterOn, LentQuestion, Denied, PassedQuestion};
 use evidence::choose::clashing;
-use evidence::collect::put_evidence;
-use evidence::decide::implies;
-use evidence::decide::yes;
+use evidence::collect::put_both;
+use evidence::decide::grounds;
+use evidence::decide::is_direct;
+use evidence::ground::Both;
+use evidence::ground::Ground;
+use evidence::ground::given;
+use evidence::ground::yes;
 use files::rules::Rules;
 use files::rules::parents;
 use files::sets;
@@ -13,9 +20,12 @@ use files::valid::valid_table;
 use files::write::Written;
 use files::write::put_numbers;
 use handed::document::write_document;
+use reachable::grow::grow_sets;
+use reachable::lay::lay;
 use reachable::reach::depths;
 use reachable::reach::reach_table;
-use reachable::steps::context;
+use reachable::sheet::WORDS;
+use reachable::sheet::context;
 
 // Yes with evidence of so many bytes, no with a counter-document of so many bytes, or the refusal's number and place.
 pub enum Reply {
@@ -61,40 +71,20 @@ fn can_ask(rules: Rules, kind: usize, left: usize, right: usize) -> bool
 }
 
 // A yes: its evidence is put into the buffer.
-fn put_yes(
-    rules: Rules,
-    parent: &[u8; 64],
-    depth: &[u8; 64],
-    table: &[u64; 512],
-    clash: u64,
-    k: u8,
-    p: usize,
-    q: usize,
-    out: &mut [u8],
-) -> Reply
-    requires { ⌜ Affirmed rules (now parent) (now depth) (now table) clash k p q ⌝ }
-    ensures { λ r. ⌜ AnswersQuestion rules k p q (now (out .entry)) r (now (out .exit)) ⌝ }
+fn put_yes(sheet: &[u64; WORDS], b: Both, out: &mut [u8]) -> Reply
+    requires { ⌜ InRange (b .first) × InRange (b .second) ⌝ }
+    ensures { λ r. ⌜ Told Reply.Yes Reply.Refused (groundNumbers (now (sheet .entry)) (b .first) ++ groundNumbers (now (sheet .entry)) (b .second)) (now (out .entry)) r (now (out .exit)) ⌝ }
 {
-    let kind = rules.kind;
-    let left = rules.left;
-    let right = rules.right;
     let mut numbers = [0u32; 400];
-    let n = put_evidence(
-        parent,
-        &kind,
-        &left,
-        &right,
-        rules.paths,
-        rules.rules,
-        depth,
-        table,
-        clash,
-        k,
-        p,
-        q,
-        &mut numbers,
-    );
+    let n = put_both(sheet, b, &mut numbers);
     affirmed(put_numbers(&numbers[..n], out))
+}
+
+// A question: its kind and its two paths.
+struct Question {
+    kind: u8,
+    first: usize,
+    second: usize,
 }
 
 // What a counter-document begins with: the goals of its part 0, and their context.
@@ -103,48 +93,25 @@ struct Begins {
     top: usize,
 }
 
-// What the counter-document begins with, by the question's kind; of a co-occurrence it shows the first failing direction.
-fn counter(
-    rules: Rules,
-    parent: &[u8; 64],
-    depth: &[u8; 64],
-    table: &[u64; 512],
-    clash: u64,
-    k: u8,
-    p: usize,
-    q: usize,
-) -> Begins
-    requires { ⌜ Denied rules (now parent) (now depth) (now table) clash k p q ⌝ }
-    ensures { λ r. ⌜ Countered rules (now (parent .entry)) (now (depth .entry)) (now (table .entry)) k p q (r .goals) (r .top) ⌝ }
+// What the counter-document begins with, by the question's kind; of a co-occurrence it shows the first failing direction, the second
+// one if the first holds.
+fn counter(sheet: &[u64; WORDS], c: Question, holds: bool) -> Begins
+    requires { ⌜ (c .first < 64) × (c .second < 64) ⌝ }
+    ensures { λ r. ⌜ r ≡ counterOn (now (sheet .entry)) (c .kind) (c .first) (c .second) holds ⌝ }
 {
-    if k == 1 {
-        let goals = sets::with(0, p);
-        return Begins { goals, top: p };
-    }
-    if k == 2 {
-        let top = context(parent, p, q);
+    let p = c.first;
+    let q = c.second;
+    if c.kind == 2 {
+        let top = context(sheet, p, q);
         let one = sets::with(0, q);
         let goals = sets::with(one, p);
         return Begins { goals, top };
     }
-    let kind = rules.kind;
-    let left = rules.left;
-    let right = rules.right;
-    if implies(
-        parent,
-        &kind,
-        &left,
-        &right,
-        rules.paths,
-        rules.rules,
-        depth,
-        table,
-        clash,
-        p,
-        q,
-    ) {
-        let goals = sets::with(0, q);
-        return Begins { goals, top: q };
+    if c.kind == 3 {
+        if holds {
+            let goals = sets::with(0, q);
+            return Begins { goals, top: q };
+        }
     }
     let goals = sets::with(0, p);
     Begins { goals, top: p }
@@ -154,51 +121,57 @@ fn counter(
 fn put_no(
     rules: Rules,
     parent: &[u8; 64],
-    depth: &[u8; 64],
-    table: &[u64; 512],
-    clash: u64,
-    k: u8,
-    p: usize,
-    q: usize,
+    sheet: &[u64; WORDS],
+    c: Question,
+    holds: bool,
     out: &mut [u8],
 ) -> Reply
-    requires { ⌜ Denied rules (now parent) (now depth) (now table) clash k p q ⌝ }
-    ensures { λ r. ⌜ AnswersQuestion rules k p q (now (out .entry)) r (now (out .exit)) ⌝ }
+    requires { ⌜ Denied rules (now parent) (now sheet) (c .kind) (c .first) (c .second) holds ⌝ }
+    ensures { λ r. ⌜ AnswersQuestion rules (c .kind) (c .first) (c .second) (now (out .entry)) r (now (out .exit)) ⌝ }
 {
-    let b = counter(rules, parent, depth, table, clash, k, p, q);
-    denied(write_document(parent, depth, table, rules.paths, b.goals, b.top, out))
+    let b = counter(sheet, c, holds);
+    let depth = depths(parent, rules.paths);
+    let table = reach_table(sheet);
+    denied(write_document(parent, &depth, &table, rules.paths, b.goals, b.top, out))
 }
 
-// The reply to a question that can be asked, of a table that passed its test.
-fn answer(rules: Rules, parent: &[u8; 64], k: u8, p: usize, q: usize, out: &mut [u8]) -> Reply
-    requires { ⌜ PassedQuestion rules (now parent) k p q ⌝ }
-    ensures { λ r. ⌜ AnswersQuestion rules k p q (now (out .entry)) r (now (out .exit)) ⌝ }
+// The reply by the grounds of the question, once all sets are grown.
+fn settle(
+    rules: Rules,
+    parent: &[u8; 64],
+    sheet: &[u64; WORDS],
+    c: Question,
+    out: &mut [u8],
+) -> Reply
+    requires { ⌜ LentQuestion rules (now parent) (now sheet) (c .kind) (c .first) (c .second) ⌝ }
+    ensures { λ r. ⌜ AnswersQuestion rules (c .kind) (c .first) (c .second) (now (out .entry)) r (now (out .exit)) ⌝ }
+{
+    let b = grounds(sheet, clashing(sheet), c.kind, c.first, c.second);
+    if yes(c.kind, b) {
+        return put_yes(sheet, b, out);
+    }
+    let first = b.first;
+    put_no(rules, parent, sheet, c, given(first), out)
+}
+
+// The reply to a question that can be asked, of a table that passed its test. Where an implication is direct no set is grown.
+fn answer(rules: Rules, parent: &[u8; 64], c: Question, out: &mut [u8]) -> Reply
+    requires { ⌜ PassedQuestion rules (now parent) (c .kind) (c .first) (c .second) ⌝ }
+    ensures { λ r. ⌜ AnswersQuestion rules (c .kind) (c .first) (c .second) (now (out .entry)) r (now (out .exit)) ⌝ }
 {
     let kind = rules.kind;
     let left = rules.left;
     let right = rules.right;
-    let count = rules.paths;
-    let many = rules.rules;
-    let depth = depths(parent, count);
-    let table = reach_table(parent, &kind, &left, &right, count, many, &depth);
-    let clash = clashing(parent, &kind, &left, &right, count, many, &depth, &table);
-    if yes(
-        parent,
-        &kind,
-        &left,
-        &right,
-        count,
-        many,
-        &depth,
-        &table,
-        clash,
-        k,
-        p,
-        q,
-    ) {
-        return put_yes(rules, parent, &depth, &table, clash, k, p, q, out);
+    let mut sheet = lay(parent, &kind, &left, &right, rules.paths, rules.rules);
+    if c.kind == 1 {
+        if is_direct(&sheet, c.first, c.second) {
+            let first = Ground::Direct(c.first, c.second);
+            let second = Ground::None;
+            return put_yes(&sheet, Both { first, second }, out);
+        }
     }
-    put_no(rules, parent, &depth, &table, clash, k, p, q, out)
+    grow_sets(&mut sheet, rules.paths);
+    settle(rules, parent, &sheet, c, out)
 }
 
 // Whether every document that obeys the rules obeys the question: evidence or a counter-document is put into the buffer.
@@ -213,5 +186,10 @@ pub fn ask(rules: Rules, kind: usize, left: usize, right: usize, out: &mut [u8])
     }
     let given = rules.parent;
     let parent = parents(&given, rules.paths);
-    answer(rules, &parent, (kind % 256) as u8, left, right, out)
+    let c = Question {
+        kind: (kind % 256) as u8,
+        first: left,
+        second: right,
+    };
+    answer(rules, &parent, c, out)
 }

@@ -2,20 +2,23 @@
 use borrow.Author.Needs.{needs}
 use Rattle.evidence.proofs.decide.is_direct.Statement.{statement}
 use Rattle.evidence.proofs.decide.is_direct.Tie as tie
-use Rattle.evidence.proofs.Choosing.{placed-laws}
-use Rattle.evidence.proofs.Collecting.{implication-laws}
+use Rattle.evidence.proofs.Deciding.{direct-laws}
+
+returns : tie.Need-returns
+returns c = search (needs, direct-laws)
 
 context-requires : tie.Need-context-requires
 context-requires c κs = search needs
 
-reach-requires : tie.Need-reach-requires
-reach-requires c κs = search (needs, placed-laws, implication-laws)
+below-requires : tie.Need-below-requires
+below-requires c κs = search needs
 
-has-requires : tie.Need-has-requires
-has-requires c κs = search needs
+nearer-requires : tie.Need-nearer-requires
+nearer-requires c κs = search needs
 
-returns : tie.Need-returns
-returns c = search (needs, placed-laws, implication-laws)
+returns-2 : tie.Need-returns-2
+returns-2 c = search (needs, direct-laws)
 
 pub is-direct-spec : {M : Type 1} → statement M
-is-direct-spec = tie.close (tie.spec context-requires reach-requires has-requires returns)
+is-direct-spec =
+    tie.close (tie.spec returns context-requires below-requires nearer-requires returns-2)

@@ -10,8 +10,8 @@ rule-move-requires c κs = search needs
 returns : tie.Need-returns
 returns c = search (needs, least-laws)
 
-parent-of-requires : tie.Need-parent-of-requires
-parent-of-requires c κs = search needs
+parent-requires : tie.Need-parent-requires
+parent-requires c κs = search needs
 
 has-requires : tie.Need-has-requires
 has-requires c κs = search needs
@@ -31,7 +31,7 @@ least-move-spec =
     (tie.spec
     rule-move-requires
     returns
-    parent-of-requires
+    parent-requires
     has-requires
     returns-2
     rule-move-requires-2

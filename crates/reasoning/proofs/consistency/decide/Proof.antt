@@ -2,35 +2,35 @@
 use borrow.Author.Needs.{needs}
 use Rattle.reasoning.proofs.consistency.decide.Statement.{statement}
 use Rattle.reasoning.proofs.consistency.decide.Tie as tie
+use Rattle.reasoning.proofs.Calling.{passed-counts, passed-range, passed-conflict, passed-witnessed}
 use native.Mathlib.Omega.{arith}
-use Rattle.reasoning.proofs.Calling.{passed-sound, passed-parents, passed-known, passed-decided, passed-witnessed, passed-conflicting}
 
-depths-requires : tie.Need-depths-requires
-depths-requires c κs = passed-parents _ (omega (arith, c .before .before .before .before .good)) _ (c .before .before .before .before .pre)
-
-reach-table-requires : tie.Need-reach-table-requires
-reach-table-requires c κs = (passed-sound _ (omega (arith, c .before .before .before .before .before .before .before .before .before .good)) _ (c .before .before .before .before .before .before .before .before .before .pre), c .before .before .before .before .depths .ensures)
-
-clashing-requires : tie.Need-clashing-requires
-clashing-requires c κs = passed-known _ (omega (arith, c .before .before .before .before .before .before .before .before .before .before .before .before .before .before .before .good)) _ (c .before .before .before .before .before .before .before .before .before .before .before .before .before .before .before .pre) _ _ (c .before .before .before .before .before .reach-table .ensures)
+sheet-of-requires : tie.Need-sheet-of-requires
+sheet-of-requires c κs = passed-counts _ (omega (arith, c .before .before .before .before .before .before .before .good)) _ (c .before .before .before .before .before .before .before .pre)
 
 with-requires : tie.Need-with-requires
 with-requires c κs = search needs
 
-consistent-requires : tie.Need-consistent-requires
-consistent-requires c κs = passed-decided _ (omega (arith, c .before .before .before .before .before .before .before .before .before .before .before .before .before .before .before .before .before .before .before .before .before .before .good)) _ (c .before .before .before .before .before .before .before .before .before .before .before .before .before .before .before .before .before .before .before .before .before .before .pre) _ _ (c .before .before .before .before .before .before .before .before .before .before .before .before .reach-table .ensures) _ (c .before .before .before .before .before .before .clashing .ensures)
+clashing-requires : tie.Need-clashing-requires
+clashing-requires c κs = search needs
 
-put-witness-requires : tie.Need-put-witness-requires
-put-witness-requires c κs = passed-witnessed _ (omega (arith, c .before .before .before .before .before .before .before .before .before .before .before .before .before .before .before .before .before .before .before .before .before .before .before .before .before .before .before .good)) _ (c .before .before .before .before .before .before .before .before .before .before .before .before .before .before .before .before .before .before .before .before .before .before .before .before .before .before .before .pre) _ _ (c .before .before .before .before .before .before .before .before .before .before .before .before .before .before .before .before .before .reach-table .ensures) _ (c .before .before .before .before .before .before .before .before .before .before .before .clashing .ensures) _ (c .before .before .before .before .before .before .before .before .before .before .with .ensures) _ (c .before .before .before .before .consistent .ensures) (c .before .before .before .if1 .taken)
+conflict-requires : tie.Need-conflict-requires
+conflict-requires c κs = search needs
+
+given-requires : tie.Need-given-requires
+given-requires c κs = search needs
+
+put-conflict-requires : tie.Need-put-conflict-requires
+put-conflict-requires c κs = passed-range _ (omega (arith, c .before .before .before .before .before .before .before .before .before .before .before .before .before .before .before .before .before .good)) _ (c .before .before .before .before .before .before .before .before .before .before .before .before .before .before .before .before .before .pre) _ (c .before .before .before .before .before .before .before .before .before .sheet-of .ensures) _ (c .before .before .before .before .before .clashing .ensures) _ (c .before .before .before .before .before .before .before .before .with .ensures) _ (c .before .before .before .before .conflict .ensures)
 
 same-length : tie.Need-same-length
 same-length c = search needs
 
 returns : tie.Need-returns
-returns c = search needs
+returns c = passed-conflict _ (omega (arith, c .before .before .before .before .before .before .before .before .before .before .before .before .before .before .before .before .before .before .before .before .good)) _ (c .before .before .before .before .before .before .before .before .before .before .before .before .before .before .before .before .before .before .before .before .pre) _ (c .before .before .before .before .before .before .before .before .before .before .before .before .sheet-of .ensures) _ (c .before .before .before .before .before .before .before .before .clashing .ensures) _ (c .before .before .before .before .before .before .before .before .before .before .before .with .ensures) _ (c .before .before .before .before .before .before .before .conflict .ensures) _ (c .before .before .before .before .before .before .given .ensures) _ _ _ (c .before .before .before .before .before .if1 .taken) (c .before .before .put-conflict .ensures)
 
-put-conflict-requires : tie.Need-put-conflict-requires
-put-conflict-requires c κs = passed-conflicting _ (omega (arith, c .before .before .before .before .before .before .before .before .before .before .before .before .before .before .before .before .before .before .before .before .before .before .before .before .before .before .before .good)) _ (c .before .before .before .before .before .before .before .before .before .before .before .before .before .before .before .before .before .before .before .before .before .before .before .before .before .before .before .pre) _ _ (c .before .before .before .before .before .before .before .before .before .before .before .before .before .before .before .before .before .reach-table .ensures) _ (c .before .before .before .before .before .before .before .before .before .before .before .clashing .ensures) _ (c .before .before .before .before .before .before .before .before .before .before .with .ensures) _ (c .before .before .before .before .consistent .ensures) (c .before .before .before .if1 .left)
+put-witness-requires : tie.Need-put-witness-requires
+put-witness-requires c κs = passed-witnessed _ (omega (arith, c .before .before .before .before .before .before .before .before .before .before .before .before .before .before .before .before .before .good)) _ (c .before .before .before .before .before .before .before .before .before .before .before .before .before .before .before .before .before .pre) _ (c .before .before .before .before .before .before .before .before .before .sheet-of .ensures) _ (c .before .before .before .before .before .clashing .ensures) _ (c .before .before .before .before .before .before .before .before .with .ensures) _ (c .before .before .before .before .conflict .ensures) _ (c .before .before .before .given .ensures) (c .before .before .if1 .left)
 
 same-length-2 : tie.Need-same-length-2
 same-length-2 c = search needs
@@ -42,14 +42,14 @@ pub decide-spec : {M : Type 1} → statement M
 decide-spec =
     tie.close
     (tie.spec
-    depths-requires
-    reach-table-requires
-    clashing-requires
+    sheet-of-requires
     with-requires
-    consistent-requires
-    put-witness-requires
+    clashing-requires
+    conflict-requires
+    given-requires
+    put-conflict-requires
     same-length
     returns
-    put-conflict-requires
+    put-witness-requires
     same-length-2
     returns-2)

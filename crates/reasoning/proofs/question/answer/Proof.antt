@@ -2,33 +2,30 @@
 use borrow.Author.Needs.{needs}
 use Rattle.reasoning.proofs.question.answer.Statement.{statement}
 use Rattle.reasoning.proofs.question.answer.Tie as tie
+use Rattle.reasoning.proofs.Calling.{passed-counts}
+use Rattle.reasoning.proofs.Asking.{asked-low, direct-low, direct-told, grown-asked}
 use native.Mathlib.Omega.{arith}
-use Rattle.reasoning.proofs.Calling.{passed-sound, passed-parents, passed-known}
-use Rattle.reasoning.proofs.Asking.{asked-requires, asked-affirmed, asked-denied}
 
-depths-requires : tie.Need-depths-requires
-depths-requires c κs = passed-parents _ (omega (arith, c .before .before .before .before .good)) _ (c .before .before .before .before .pre .passed)
+lay-requires : tie.Need-lay-requires
+lay-requires c κs = passed-counts _ (omega (arith, c .before .before .before .before .before .before .before .good)) _ (c .before .before .before .before .before .before .before .pre .passed)
 
-reach-table-requires : tie.Need-reach-table-requires
-reach-table-requires c κs = (passed-sound _ (omega (arith, c .before .before .before .before .before .before .before .before .before .good)) _ (c .before .before .before .before .before .before .before .before .before .pre .passed), c .before .before .before .before .depths .ensures)
-
-clashing-requires : tie.Need-clashing-requires
-clashing-requires c κs = passed-known _ (omega (arith, c .before .before .before .before .before .before .before .before .before .before .before .before .before .before .before .good)) _ (c .before .before .before .before .before .before .before .before .before .before .before .before .before .before .before .pre .passed) _ _ (c .before .before .before .before .before .reach-table .ensures)
-
-yes-requires : tie.Need-yes-requires
-yes-requires c κs = asked-requires _ (omega (arith, c .before .before .before .before .before .before .before .before .before .before .before .before .before .before .before .before .before .before .before .before .before .good)) _ _ _ _ (c .before .before .before .before .before .before .before .before .before .before .before .before .before .before .before .before .before .before .before .before .before .pre) _ _ (c .before .before .before .before .before .before .before .before .before .before .before .reach-table .ensures) _ (c .before .before .before .before .before .clashing .ensures)
+is-direct-requires : tie.Need-is-direct-requires
+is-direct-requires c κs = asked-low _ (omega (arith, c .before .before .before .before .before .before .before .before .before .before .before .good)) _ _ _ _ (c .before .before .before .before .before .before .before .before .before .before .before .pre)
 
 put-yes-requires : tie.Need-put-yes-requires
-put-yes-requires c κs = asked-affirmed _ (omega (arith, c .before .before .before .before .before .before .before .before .before .before .before .before .before .before .before .before .before .before .before .before .before .before .before .before .before .before .good)) _ _ _ _ (c .before .before .before .before .before .before .before .before .before .before .before .before .before .before .before .before .before .before .before .before .before .before .before .before .before .before .pre) _ _ (c .before .before .before .before .before .before .before .before .before .before .before .before .before .before .before .before .reach-table .ensures) _ (c .before .before .before .before .before .before .before .before .before .before .clashing .ensures) _ (c .before .before .before .before .yes .ensures) (c .before .before .before .if1 .taken)
+put-yes-requires c κs = direct-low _ (omega (arith, c .before .before .before .before .before .before .before .before .before .before .before .before .before .before .before .good)) _ _ _ _ (c .before .before .before .before .before .before .before .before .before .before .before .before .before .before .before .pre) _ (c .before .before .before .before .before .before .before .lay .ensures)
 
 same-length : tie.Need-same-length
 same-length c = search needs
 
 returns : tie.Need-returns
-returns c = search needs
+returns c = direct-told _ (omega (arith, c .before .before .before .before .before .before .before .before .before .before .before .before .before .before .before .before .before .before .good)) _ _ _ _ (c .before .before .before .before .before .before .before .before .before .before .before .before .before .before .before .before .before .before .pre) _ (c .before .before .before .before .before .before .before .before .before .before .lay .ensures) _ (c .before .before .before .before .before .before .before .before .if1 .taken) (c .before .before .before .before .before .before .is-direct .ensures) (c .before .before .before .before .before .if2 .taken) _ _ _ (c .before .before .put-yes .ensures)
 
-put-no-requires : tie.Need-put-no-requires
-put-no-requires c κs = asked-denied _ (omega (arith, c .before .before .before .before .before .before .before .before .before .before .before .before .before .before .before .before .before .before .before .before .before .before .before .before .before .before .good)) _ _ _ _ (c .before .before .before .before .before .before .before .before .before .before .before .before .before .before .before .before .before .before .before .before .before .before .before .before .before .before .pre) _ _ (c .before .before .before .before .before .before .before .before .before .before .before .before .before .before .before .before .reach-table .ensures) _ (c .before .before .before .before .before .before .before .before .before .before .clashing .ensures) _ (c .before .before .before .before .yes .ensures) (c .before .before .before .if1 .left)
+grow-sets-requires : tie.Need-grow-sets-requires
+grow-sets-requires c κs = passed-counts _ (omega (arith, c .before .before .before .before .before .before .before .before .before .before .before .good)) _ (c .before .before .before .before .before .before .before .before .before .before .before .pre .passed) .0
+
+settle-requires : tie.Need-settle-requires
+settle-requires c κs = grown-asked _ (omega (arith, c .before .before .before .before .before .before .before .before .before .before .before .before .before .before .good)) _ _ _ _ (c .before .before .before .before .before .before .before .before .before .before .before .before .before .before .pre) _ (c .before .before .before .before .before .before .lay .ensures) _ (c .before .before .grow-sets .ensures)
 
 same-length-2 : tie.Need-same-length-2
 same-length-2 c = search needs
@@ -40,13 +37,12 @@ pub answer-spec : {M : Type 1} → statement M
 answer-spec =
     tie.close
     (tie.spec
-    depths-requires
-    reach-table-requires
-    clashing-requires
-    yes-requires
+    lay-requires
+    is-direct-requires
     put-yes-requires
     same-length
     returns
-    put-no-requires
+    grow-sets-requires
+    settle-requires
     same-length-2
     returns-2)

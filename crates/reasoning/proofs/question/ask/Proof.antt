@@ -2,8 +2,8 @@
 use borrow.Author.Needs.{needs}
 use Rattle.reasoning.proofs.question.ask.Statement.{statement}
 use Rattle.reasoning.proofs.question.ask.Tie as tie
-use native.Mathlib.Omega.{arith}
 use Rattle.reasoning.proofs.Asking.{invalid-barred, unasked-barred, question-passed, answers-byte}
+use native.Mathlib.Omega.{arith}
 use borrow.Author.Tests.{not-false}
 use mathlib.Core.Path.{sym, _∙_}
 
@@ -22,8 +22,8 @@ returns-2 c = unasked-barred _ _ _ _ _ (omega (arith, c .before .before .before 
 parents-requires : tie.Need-parents-requires
 parents-requires c κs = search needs
 
-cast-answer : tie.Need-cast-answer
-cast-answer c = search needs
+cast-t14 : tie.Need-cast-t14
+cast-t14 c = search needs
 
 answer-requires : tie.Need-answer-requires
 answer-requires c κs = question-passed _ _ _ _ _ _ (c .before .before .before .before .before .before .before .before .valid-table .ensures) (c .before .before .before .before .before .before .before .if1 .left) _ (c .before .before .before .before .before .before .can-ask .ensures) (c .before .before .before .before .before .if2 .left) (c .before .before .parents .ensures)
@@ -43,7 +43,7 @@ ask-spec =
     can-ask-requires
     returns-2
     parents-requires
-    cast-answer
+    cast-t14
     answer-requires
     same-length
     returns-3)
