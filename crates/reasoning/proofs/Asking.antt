@@ -104,7 +104,7 @@ module _ (t : Rules) (word : t .required < 2 ^ 64) (parent : List ℕ) (kind p q
             ∙ sym test ∙ z
 
     -- with all sets it is the table's sheet
-    pub grown-asked : (grown : List ℕ) → grown ≡ withSets (t .paths) sheet → Asked t parent grown kind p q
+    pub grown-asked : (grown : List ℕ) → grown ≡ withSets (t .paths) sheet → LentQuestion t parent grown kind p q
     unfolding sheetOf
     grown-asked grown f = record {
       lent = record { passed = h .passed; laid = f ∙ ap (withSets (t .paths)) e };

@@ -40,7 +40,7 @@ pub record PassedQuestion (t : Rules) (parent : List ℕ) (kind p q : ℕ) : Typ
   pub can : askable t kind p q ≡ true
 
 -- and its sheet is lent
-pub record Asked (t : Rules) (parent sheet : List ℕ) (kind p q : ℕ) : Type 0 where
+pub record LentQuestion (t : Rules) (parent sheet : List ℕ) (kind p q : ℕ) : Type 0 where
   pub lent : LentSheet t parent sheet
   pub can : askable t kind p q ≡ true
 
