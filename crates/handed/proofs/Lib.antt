@@ -3,3 +3,5 @@ pub mod Emitting
 pub mod EmittingParts
 pub mod GoalWords
 pub mod Places
+pub mod SheetGoals
+pub mod SheetPlan
