@@ -5,3 +5,5 @@ pub mod GoalWords
 pub mod Places
 pub mod SheetGoals
 pub mod SheetPlan
+pub mod WrittenDocument
+pub mod SetSums
