@@ -1,66 +1,32 @@
--- Laws of the goals of parts as the code works them out: look-ups, gathering, children's goals, and the goals on every path.
-use Prim.Native.Nat.{ℕ, suc, _+_, _-_, _^_, _≤_, _<_}
-use mathlib.Core.Path.{_≡_, refl, sym, ap, _∙_, subst}
+-- Laws of the goals of parts as the code works them out: words of the sheet, gathering, children's goals, and the goals on every path.
+use Prim.Native.Nat.{ℕ, suc, _+_, _*_, _-_, _%_, _^_, _≤_, _<_}
+use mathlib.Core.Path.{_≡_, refl, sym, ap, ap₂, _∙_, subst}
+use mathlib.Core.Logic.{_⊎_, inl, inr}
 use mathlib.Core.Bool.{Bool, true, false, not}
-use mathlib.Core.List.{List, [], _∷_, _++_, append-assoc, append-nil}
+use mathlib.Core.List.{List}
 use native.Mathlib.Omega.{arith}
 use native.Mathlib.Numerals.{add-one}
 use lib.Count.{leadingZeros, leading-top}
-use lib.Dec.{eqb}
-use lib.ListN.{length, getD, set, replicate, length-append}
-use borrow.Author.Tests.{lt-ltb, le-ltb, eq-eqb, ne-eqb}
-use Rattle.files.specs.Rules.{padded}
-use Rattle.files.specs.Sets.{hasb, withPath, withoutPath, union, common, difference, lowest, withoutLowest}
-use Rattle.files.proofs.Padded.{padded-get, padded-none, padded-store}
-use Rattle.files.proofs.SetLowest.{lowest-lt, without-lowest-less}
-use Rattle.documents.specs.Paths.{climbUnder, towards}
-use Rattle.theory.specs.Reachable.{subtree}
+use lib.Bits.{or-zero-l, and-zero-r}
+use lib.Dec.{eqb, lit<}
+use lib.ListN.{getD, set, replicate}
+use borrow.Author.Tests.{eq-eqb, ne-eqb}
+use Rattle.files.specs.Sets.{Has, hasb, withPath, withoutPath, union, common, difference, lowest, withoutLowest}
+use Rattle.files.proofs.SetBits.{same-sets, has-with, has-without, with-lt, without-lt, without-absent, bit-with-other, bit-of-zero, difference-lt}
+use Rattle.files.proofs.SetLowest.{lowest-lt, has-lowest, without-lowest-less}
 use Rattle.theory.specs.Least.{someIn}
-use Rattle.reachable.specs.Known.{lookup, Placed}
-use Rattle.theory.specs.Handed.{
-  Start,
-  highest,
-  gather,
-  climbAll,
-  severalb,
-  reachAll,
-  coverEach,
-  fillWord,
-  kidWord,
-  oneKids,
-  chain,
-  allKids,
-  kidsAt,
-  rootGoals,
-  goalsOn,
-  rowsFrom,
-  goalRows,
-}
-use Rattle.handed.specs.Writer.{wordFor, Tabled, startOf, chainOf, rootOf, goalsHere}
+use Rattle.reachable.specs.Sheet.{row, slotOf, parentIn, pathsIn}
+use Rattle.theory.specs.Handed.{highest, gather, severalb}
+use Rattle.handed.specs.Goals.{inside, insideAny, fillIn, ownOf, kidsIn, oneIn, allIn, chainIn, rootOf}
+use Rattle.handed.specs.Plan.{planWords, wholeIn, allFor, opened, goalsHere, kidsHere, planPath, planPaths}
 use Rattle.theory.proofs.HandedGather.{gather-end, gather-step}
+use Rattle.theory.proofs.HandedWords.{has-none, has-positive}
 
--- ---- reachable words of the table's paths
+-- ---- words of the sheet, and the greatest path
 
-module _ (depth table : List ℕ) (count c x : ℕ) where
-  pub word-placed : Tabled depth count → c < count → x < count → Placed depth c x
-  word-placed t h k =
-      record { inner = omega (arith, t .few); outer = omega (arith, t .few); low = t .low c h; high = t .high c h }
-
-  pub word-in : (r : ℕ) → r ≡ lookup depth table c x → c < count → x < count → r ≡ wordFor depth table count c x
-  unfolding wordFor
-  word-in r e h k = rw (wordFor, lt-ltb c count h, lt-ltb x count k) e
-
-  pub word-outer : c < count → count ≤ x → 0 ≡ wordFor depth table count c x
-  unfolding wordFor
-  word-outer h k = rw (wordFor, lt-ltb c count h, le-ltb x count k)
-
-  pub word-inner : count ≤ c → 0 ≡ wordFor depth table count c x
-  unfolding wordFor
-  word-inner h = rw (wordFor, le-ltb c count h)
-
-pub ruleset word-laws = (word-placed, word-in, word-outer, word-inner)
-
--- ---- the greatest path, and the child path towards a path
+pub inside-reads : (sheet : List ℕ) (d x : ℕ) → getD sheet (x * 8 + d) 0 ≡ inside sheet d x
+unfolding inside
+inside-reads sheet d x = refl
 
 pub leading-small : (w : ℕ) → 0 < w → w < 2 ^ 64 → leadingZeros 64 w ≤ 63
 leading-small w h f = let t = leading-top 64 w h f in omega (arith, t .1)
@@ -68,35 +34,6 @@ leading-small w h f = let t = leading-top 64 w h f in omega (arith, t .1)
 pub highest-reads : (w : ℕ) → 63 - leadingZeros 64 w ≡ highest w
 unfolding highest
 highest-reads w = refl
-
-pub towards-start : (parent : ℕ → ℕ) (c g : ℕ) → climbUnder parent c g g ≡ towards parent c g
-unfolding towards
-towards-start parent c g = refl
-
-module _ (parent : ℕ → ℕ) (c left x v : ℕ) (inv : climbUnder parent c left x ≡ v) where
-  module _ (above : ℕ) (some : 0 < left) (is : above ≡ parent x) where
-    more : left ≡ suc (left - 1)
-    more = omega arith
-
-    opened : climbUnder parent c (suc (left - 1)) x ≡ v
-    opened = subst (λ (n : ℕ). climbUnder parent c n x ≡ v) more inv
-
-    pub towards-here : above ≡ c → x ≡ v
-    unfolding climbUnder
-    towards-here h = rw (climbUnder, ← is, eq-eqb above c h) at opened
-
-    pub towards-on : (above ≡ c → ⊥) → climbUnder parent c (left - 1) above ≡ v
-    unfolding climbUnder
-    towards-on h = rw is (rw (climbUnder, eqb-no) at opened)
-      where
-        eqb-no : eqb (parent x) c ≡ false
-        eqb-no = rw is at (ne-eqb above c h)
-
-  pub towards-end : left ≤ 0 → x ≡ v
-  unfolding climbUnder
-  towards-end h = rw (let e : left ≡ 0 = omega arith in e) at inv
-
-pub ruleset towards-laws = (towards-start, towards-here, towards-on, towards-end)
 
 -- ---- gathering over the members of a set
 
@@ -118,68 +55,123 @@ module _ (left : ℕ) (some : left ≡ 0 → ⊥) (fits : left < 2 ^ 64) where
 pub gather-none : (f : ℕ → ℕ) (left all v : ℕ) → gather f 64 left all ≡ v → left ≡ 0 → all ≡ v
 gather-none f left all v inv e = sym (gather-end f 64 all) ∙ ap (λ (w : ℕ). gather f 64 w all) (sym e) ∙ inv
 
-pub cover-start : (parent : ℕ → ℕ) (count : ℕ) (R : ℕ → ℕ → ℕ) (c goals : ℕ)
-    → gather (λ g. R (towards parent c g) g) 64 goals 0 ≡ coverEach parent count R c goals
-unfolding coverEach
-cover-start parent count R c goals = refl
+pub any-start : (sheet : List ℕ) (d goals : ℕ) → gather (inside sheet d) 64 goals 0 ≡ insideAny sheet d goals
+unfolding insideAny
+any-start sheet d goals = refl
 
-pub ruleset gather-laws = (gather-low, gather-less, gather-fits, gather-on, gather-none, cover-start)
+pub ruleset gather-laws = (gather-low, gather-less, gather-fits, gather-on, gather-none, any-start)
 
 -- ---- the goals of children
 
-pub covered-is : (parent : ℕ → ℕ) (depth table : List ℕ) (count c g k r : ℕ) → k ≡ towards parent c g → r ≡ wordFor depth table count k g
-    → r ≡ wordFor depth table count (towards parent c g) g
-covered-is parent depth table count c g k r e f = rw (← e) f
-
-module _ (parent : ℕ → ℕ) (count : ℕ) (R : ℕ → ℕ → ℕ) (c fuel left chosen v : ℕ) (inv : fillWord parent count R c fuel left chosen ≡ v) where
+module _ (sheet : List ℕ) (d fuel left chosen v : ℕ) (inv : fillIn sheet d fuel left chosen ≡ v) where
   module _ (more : 0 < fuel) where
-    opened-fill : fillWord parent count R c (suc (fuel - 1)) left chosen ≡ v
-    opened-fill = subst (λ (n : ℕ). fillWord parent count R c n left chosen ≡ v) (omega arith) inv
+    opened-fill : fillIn sheet d (suc (fuel - 1)) left chosen ≡ v
+    opened-fill = subst (λ (n : ℕ). fillIn sheet d n left chosen ≡ v) (omega arith) inv
 
     pub choose-none : left ≡ 0 → chosen ≡ v
-    unfolding fillWord
-    choose-none h = rw (fillWord, eq-eqb left 0 h) at opened-fill
+    unfolding fillIn
+    choose-none h = rw (fillIn, eq-eqb left 0 h) at opened-fill
 
-    pub choose-on : (left ≡ 0 → ⊥) → (x u next r : ℕ) → x ≡ highest left → u ≡ R (towards parent c x) x → next ≡ difference left u
-        → r ≡ withPath chosen x → fillWord parent count R c (fuel - 1) next r ≡ v
-    unfolding fillWord
-    choose-on h x u next r e f g k = rw (k, g, f, e) (rw (fillWord, ne-eqb left 0 h) at opened-fill)
+    pub choose-on : (left ≡ 0 → ⊥) → (x u next r : ℕ) → x ≡ highest left → u ≡ inside sheet (d + 1) x → next ≡ difference left u
+        → r ≡ withPath chosen x → fillIn sheet d (fuel - 1) next r ≡ v
+    unfolding fillIn
+    choose-on h x u next r e f g k = rw (k, g, f, e) (rw (fillIn, ne-eqb left 0 h) at opened-fill)
 
   pub choose-end : fuel ≤ 0 → chosen ≡ v
-  unfolding fillWord
+  unfolding fillIn
   choose-end h = rw (let e : fuel ≡ 0 = omega arith in e) at inv
 
 pub choose-some : (left : ℕ) → (left ≡ 0 → ⊥) → 0 < left
 choose-some left h = omega (arith, h)
 
 pub choose-fits : (left u next : ℕ) → left < 2 ^ 64 → next ≡ difference left u → next < 2 ^ 64
-choose-fits left u next h e = omega (arith, Rattle.files.proofs.SetBits.difference-lt left u h)
+choose-fits left u next h e = omega (arith, difference-lt left u h)
 
 pub ruleset choose-laws = (choose-none, choose-on, choose-end, choose-some, choose-fits)
 
-module _ (parent : ℕ → ℕ) (count : ℕ) (R : ℕ → ℕ → ℕ) (c goals top all reached : ℕ) (handed : Bool) (a : all ≡ gather (R c) 64 goals 0)
-    (w : reached ≡ withoutPath all c) where
-  pub kids-handed : (k covered d r : ℕ) → handed ≡ true → k ≡ towards parent c top → covered ≡ gather (R k) 64 goals 0
-      → d ≡ difference reached covered → r ≡ fillWord parent count R c 64 d 0 → r ≡ kidWord parent count R c goals top handed
-  unfolding kidWord reachAll
-  kids-handed k covered d r h e f g i = rw (h, ← e, ← a, ← w, ← f, ← g) i
+module _ (sheet : List ℕ) (d c goals all reached own covers left : ℕ) (handed : Bool) (a : all ≡ insideAny sheet d goals)
+    (w : reached ≡ withoutPath all c) (o : own ≡ withoutPath goals c) (u : covers ≡ insideAny sheet (d + 1) own)
+    (l : left ≡ difference reached covers) where
+  pub kids-handed : (r : ℕ) → handed ≡ true → r ≡ fillIn sheet d 64 left 0 → r ≡ kidsIn sheet d c goals handed
+  unfolding kidsIn ownOf
+  kids-handed r h e = rw (h, ← a, ← w, ← o, ← u, ← l) e
 
-  pub kids-own : (own covered d r : ℕ) → handed ≡ false → own ≡ withoutPath goals c → covered ≡ coverEach parent count R c own
-      → d ≡ difference reached covered → r ≡ fillWord parent count R c 64 d own → r ≡ kidWord parent count R c goals top handed
-  unfolding kidWord reachAll
-  kids-own own covered d r h e f g i = rw (h, ← a, ← w, ← e, ← f, ← g) i
+  pub kids-own : (r : ℕ) → handed ≡ false → r ≡ fillIn sheet d 64 left own → r ≡ kidsIn sheet d c goals handed
+  unfolding kidsIn ownOf
+  kids-own r h e = rw (h, ← a, ← w, ← o, ← u, ← l) e
 
-pub kids-one : (parent : ℕ → ℕ) (count : ℕ) (R : ℕ → ℕ → ℕ) (c g w r : ℕ) → w ≡ withPath 0 g → r ≡ kidWord parent count R c w g false
-    → r ≡ oneKids parent count R c g
-unfolding oneKids
-kids-one parent count R c g w r e f = rw (← e) f
+pub ruleset kid-laws = (kids-handed, kids-own)
 
-pub kids-all : (parent : ℕ → ℕ) (count : ℕ) (R : ℕ → ℕ → ℕ) (goals top c r : ℕ)
-    → r ≡ kidWord parent count R c goals top (not (eqb c top)) → r ≡ allKids parent count R (startOf goals top) c
-unfolding allKids
-kids-all parent count R goals top c r e = e
+-- one goal
+none-left : (w : ℕ) → w < 2 ^ 64 → ((j : ℕ) → Has w j → ⊥) → w ≡ 0
+none-left w l h = same-sets w 0 l (lit< tt) (λ j k. (λ m. absurd (h j m), λ m. absurd (has-none m)))
 
-pub ruleset kid-laws = (covered-is, kids-handed, kids-own, kids-one, kids-all)
+module _ (g : ℕ) (low : g < 64) where
+  one-lowest : lowest (withPath 0 g) ≡ g
+  one-lowest = pick (has-with 0 g (lowest (withPath 0 g)) low .0 (has-lowest (withPath 0 g) one-some (with-lt 0 g (lit< tt))))
+    where
+      one-some : 0 < withPath 0 g
+      one-some = has-positive (withPath 0 g) g (has-with 0 g g low .1 (inl refl))
+
+      pick : (lowest (withPath 0 g) ≡ g) ⊎ Has 0 (lowest (withPath 0 g)) → lowest (withPath 0 g) ≡ g
+      pick (inl e) = e
+      pick (inr m) = absurd (has-none m)
+
+  one-without : withoutPath (withPath 0 g) g ≡ 0
+  one-without =
+      none-left (withoutPath (withPath 0 g) g) (without-lt (withPath 0 g) g (with-lt 0 g (lit< tt)))
+      (λ j m. let r = has-without (withPath 0 g) g j .0 m in out j (r .0) (has-with 0 g j low .0 (r .1)))
+    where
+      out : (j : ℕ) → (j ≡ g → ⊥) → (j ≡ g) ⊎ Has 0 j → ⊥
+      out j n (inl e) = n e
+      out j n (inr m) = has-none m
+
+  -- what one goal gives
+  pub gather-one : (f : ℕ → ℕ) → gather f 64 (withPath 0 g) 0 ≡ f g
+  unfolding union withoutLowest
+  gather-one f =
+      gather-step f (withPath 0 g) 0 (has-positive (withPath 0 g) g (has-with 0 g g low .1 (inl refl))) (with-lt 0 g (lit< tt))
+      ∙ rw (one-lowest, one-without) (gather-end f 64 (union 0 (f g)) ∙ or-zero-l (f g))
+
+any-one : (sheet : List ℕ) (d g : ℕ) → g < 64 → insideAny sheet d (withPath 0 g) ≡ inside sheet d g
+unfolding insideAny
+any-one sheet d g low = gather-one g low (inside sheet d)
+
+difference-none : (w : ℕ) → difference w 0 ≡ w
+unfolding difference
+difference-none w = rw (and-zero-r w) (omega arith)
+
+module _ (sheet : List ℕ) (d c g u reached : ℕ) (low : g < 64) (a : u ≡ inside sheet d g) (w : reached ≡ withoutPath u c) where
+  reached-is : withoutPath (insideAny sheet d (withPath 0 g)) c ≡ reached
+  reached-is = ap (λ (z : ℕ). withoutPath z c) (any-one sheet d g low ∙ sym a) ∙ sym w
+
+  pub one-here : (r : ℕ) → g ≡ c → r ≡ fillIn sheet d 64 reached 0 → r ≡ oneIn sheet d c g
+  unfolding oneIn kidsIn ownOf insideAny
+  one-here r h e =
+      let own : withoutPath (withPath 0 g) c ≡ 0 = ap (withoutPath (withPath 0 g)) (sym h) ∙ one-without g low in
+      e ∙ ap₂ (fillIn sheet d 64) (sym (ap₂ difference reached-is (ap (insideAny sheet (d + 1)) own ∙ gather-end (inside sheet (d + 1)) 64 0) ∙ difference-none reached)) (sym own)
+
+  pub one-lower : (covers left own r : ℕ) → (g ≡ c → ⊥) → covers ≡ inside sheet (d + 1) g → left ≡ difference reached covers → own ≡ withPath 0 g
+      → r ≡ fillIn sheet d 64 left own → r ≡ oneIn sheet d c g
+  unfolding oneIn kidsIn ownOf
+  one-lower covers left own r h f l o e =
+      let same : withoutPath (withPath 0 g) c ≡ withPath 0 g =
+      without-absent (withPath 0 g) c (bit-with-other 0 g c (λ p. h (sym p)) ∙ bit-of-zero c) in
+      let under : insideAny sheet (d + 1) (withoutPath (withPath 0 g) c) ≡ covers = ap (insideAny sheet (d + 1)) same ∙ any-one sheet (d + 1) g low ∙ sym f in
+      e ∙ ap₂ (fillIn sheet d 64) (l ∙ sym (ap₂ difference reached-is under)) (o ∙ sym same)
+
+pub ruleset one-kid-laws = (one-here, one-lower)
+
+pub ones-start : (sheet : List ℕ) (d c here first : ℕ) → d ≡ slotOf sheet c
+    → gather (oneIn sheet d c) 64 here first ≡ gather (oneIn sheet (slotOf sheet c) c) 64 here first
+ones-start sheet d c here first e = rw e
+
+pub ruleset ones-laws = (ones-start, gather-laws)
+
+pub all-kids-is : (sheet plan : List ℕ) (c d goals top r : ℕ) → d ≡ slotOf sheet c → goals ≡ getD plan 193 0 → top ≡ getD plan 194 0 % 64
+    → r ≡ kidsIn sheet d c goals (not (eqb c top)) → r ≡ allFor sheet plan c
+unfolding allFor allIn
+all-kids-is sheet plan c d goals top r e f g h = rw (← e, ← f, ← g) h
 
 -- ---- the chain of parts that have all goals
 
@@ -187,58 +179,16 @@ pub several-is : (goals w : ℕ) → w ≡ withoutLowest goals → not (eqb w 0)
 unfolding severalb someIn
 several-is goals w e = rw e
 
-module _ (parent : ℕ → ℕ) (left at all v : ℕ) (inv : climbAll parent left at all ≡ v) where
-  module _ (some : 0 < left) where
-    opened-climb : climbAll parent (suc (left - 1)) at all ≡ v
-    opened-climb = subst (λ (n : ℕ). climbAll parent n at all ≡ v) (omega arith) inv
-
-    pub above-root : (r : ℕ) → at ≡ 0 → r ≡ withPath all 0 → r ≡ v
-    unfolding climbAll
-    above-root r h e = e ∙ (rw (climbAll, eq-eqb at 0 h) at opened-climb)
-
-    pub above-on : (r up : ℕ) → (at ≡ 0 → ⊥) → r ≡ withPath all at → up ≡ parent at → climbAll parent (left - 1) up r ≡ v
-    unfolding climbAll
-    above-on r up h e f = rw (e, f) (rw (climbAll, ne-eqb at 0 h) at opened-climb)
-
-  pub above-end : (r : ℕ) → left ≤ 0 → r ≡ withPath all at → r ≡ v
-  unfolding climbAll
-  above-end r h e = e ∙ (rw (let e : left ≡ 0 = omega arith in e) at inv)
-
-pub ruleset above-laws = (above-root, above-on, above-end)
-
-module _ (parent : ℕ → ℕ) (goals top : ℕ) (t : Bool) (is : t ≡ severalb goals) where
-  pub chain-several : (r : ℕ) → t ≡ true → r ≡ climbAll parent top top 0 → r ≡ chainOf parent goals top
-  unfolding chainOf
-  chain-several r h e = rw (chainOf, ← is, h) e
-
-  pub chain-none : t ≡ false → 0 ≡ chainOf parent goals top
-  unfolding chainOf
-  chain-none h = rw (chainOf, ← is, h)
-
-pub chain-same : (parent : ℕ → ℕ) (count : ℕ) (R : ℕ → ℕ → ℕ) (goals top : ℕ)
-    → chain parent count R (startOf goals top) ≡ chainOf parent goals top
-unfolding chain chainOf
-chain-same parent count R goals top = refl
-
-pub ruleset chain-laws = (several-is, chain-several, chain-none)
-
-module _ (parent : ℕ → ℕ) (count : ℕ) (R : ℕ → ℕ → ℕ) (goals top whole c here : ℕ) (t : Bool) (w : whole ≡ chainOf parent goals top)
-    (is : t ≡ hasb whole c) where
-  pub kids-whole : (first r : ℕ) → t ≡ true → first ≡ allKids parent count R (startOf goals top) c
-      → r ≡ gather (oneKids parent count R c) 64 here first → r ≡ kidsAt parent count R (startOf goals top) c here
-  unfolding kidsAt
-  kids-whole first r h e f = rw (kidsAt, chain-same parent count R goals top, ← w, ← is, h, ← e) f
-
-  pub kids-plain : (r : ℕ) → t ≡ false → r ≡ gather (oneKids parent count R c) 64 here 0
-      → r ≡ kidsAt parent count R (startOf goals top) c here
-  unfolding kidsAt
-  kids-plain r h f = rw (kidsAt, chain-same parent count R goals top, ← w, ← is, h) f
-
-pub ruleset whole-laws = (kids-whole, kids-plain)
-
--- ---- the goals of the one-goal parts on every path
-
 module _ (goals : ℕ) (t : Bool) (is : t ≡ severalb goals) where
+  module _ (sheet : List ℕ) (top : ℕ) where
+    pub chain-several : (r : ℕ) → t ≡ true → r ≡ row 1024 sheet top → r ≡ chainIn sheet goals top
+    unfolding chainIn
+    chain-several r h e = rw (chainIn, ← is, h) e
+
+    pub chain-none : t ≡ false → 0 ≡ chainIn sheet goals top
+    unfolding chainIn
+    chain-none h = rw (chainIn, ← is, h)
+
   pub root-several : t ≡ true → 0 ≡ rootOf goals
   unfolding rootOf
   root-several h = rw (rootOf, ← is, h)
@@ -247,75 +197,58 @@ module _ (goals : ℕ) (t : Bool) (is : t ≡ severalb goals) where
   unfolding rootOf
   root-one h = rw (rootOf, ← is, h)
 
-module _ (parent : ℕ → ℕ) (count goals c : ℕ) (named : List ℕ) where
-  pub goals-root : (r : ℕ) → c ≡ 0 → r ≡ rootOf goals → r ≡ goalsHere parent count goals c named
+pub ruleset several-laws = (several-is, chain-several, chain-none, root-several, root-one)
+
+-- ---- the goals on every path
+
+module _ (sheet plan : List ℕ) (c here whole : ℕ) (t : Bool) (e : whole ≡ getD plan 192 0) (is : t ≡ hasb whole c) where
+  test-is : t ≡ hasb (wholeIn plan) c
+  test-is = is ∙ ap (λ (z : ℕ). hasb z c) e
+
+  pub here-whole : (first r : ℕ) → t ≡ true → first ≡ allFor sheet plan c
+      → r ≡ gather (oneIn sheet (slotOf sheet c) c) 64 here first → r ≡ kidsHere sheet plan c here
+  unfolding kidsHere
+  here-whole first r h f g = rw (kidsHere, ← test-is, h, ← f) g
+
+  pub here-plain : (r : ℕ) → t ≡ false → r ≡ gather (oneIn sheet (slotOf sheet c) c) 64 here 0 → r ≡ kidsHere sheet plan c here
+  unfolding kidsHere
+  here-plain r h g = rw (kidsHere, ← test-is, h) g
+
+module _ (sheet plan : List ℕ) (c : ℕ) where
+  pub goals-root : (goals r : ℕ) → c ≡ 0 → goals ≡ getD plan 193 0 → r ≡ rootOf goals → r ≡ goalsHere sheet plan c
   unfolding goalsHere
-  goals-root r h e = rw (goalsHere, eq-eqb c 0 h) e
+  goals-root goals r h f e = rw (goalsHere, eq-eqb c 0 h, ← f) e
 
-  pub goals-next : (above w r : ℕ) → (c ≡ 0 → ⊥) → above ≡ parent c → w ≡ subtree parent count c
-      → r ≡ common (getD named above 0) w → r ≡ goalsHere parent count goals c named
+  pub goals-next : (up w named r : ℕ) → (c ≡ 0 → ⊥) → up ≡ parentIn sheet c → w ≡ row 1088 sheet c → named ≡ getD plan (64 + up) 0
+      → r ≡ common named w → r ≡ goalsHere sheet plan c
   unfolding goalsHere
-  goals-next above w r h e f g = rw (goalsHere, ne-eqb c 0 h, ← e, ← f) g
+  goals-next up w named r h e f n g = rw (goalsHere, ne-eqb c 0 h, ← e, ← f, ← n) g
 
-pub ruleset goals-laws = (root-several, root-one, goals-root, goals-next)
+  pub path-planned : (here named : ℕ) → here ≡ goalsHere sheet plan c → named ≡ kidsHere sheet plan c here
+      → set (set plan c here) (64 + c) named ≡ planPath sheet plan c
+  unfolding planPath
+  path-planned here named e f = rw (f, e)
 
--- what is in the arrays where the goals on paths from c on are worked out
-pub record Rows (parent : ℕ → ℕ) (count : ℕ) (R : ℕ → ℕ → ℕ) (start : Start) (c : ℕ) (rows named : List ℕ) : Type 0 where
-  pub done : List ℕ
-  pub given : List ℕ
-  pub rows-are : rows ≡ padded 64 done
-  pub named-are : named ≡ padded 64 given
-  pub rows-long : length done ≡ c
-  pub named-long : length given ≡ c
-  pub all : done ++ rowsFrom parent count R start (count - c) c given ≡ goalRows parent count R start
+pub ruleset here-laws = (here-whole, here-plain, goals-root, goals-next, path-planned)
 
-module _ (parent : ℕ → ℕ) (count : ℕ) (R : ℕ → ℕ → ℕ) where
-  pub rows-start : (start : Start) → Rows parent count R start 0 (replicate 64 0) (replicate 64 0)
-  unfolding goalRows
-  rows-start start =
-      record {
-        done = [];
-        given = [];
-        rows-are = sym (padded-none 64);
-        named-are = sym (padded-none 64);
-        rows-long = refl;
-        named-long = refl;
-        all = rw (let e : count - 0 ≡ count = omega arith in e);
-      }
+pub opened-is : (sheet : List ℕ) (goals top w : ℕ) → w ≡ chainIn sheet goals top
+    → set (set (set (replicate 195 0) 192 w) 193 goals) 194 top ≡ opened sheet goals top
+unfolding opened
+opened-is sheet goals top w e = rw e
 
-  here-same : (goals top c : ℕ) (given : List ℕ) → goalsHere parent count goals c (padded 64 given) ≡ goalsOn parent count R (startOf goals top) c given
-  unfolding goalsHere goalsOn rootOf rootGoals
-  here-same goals top c given = pick (eqb c 0) refl
-    where
-      pick : (t : Bool) → eqb c 0 ≡ t → goalsHere parent count goals c (padded 64 given) ≡ goalsOn parent count R (startOf goals top) c given
-      pick true e = rw (goalsHere, goalsOn, e)
-      pick false e = rw (goalsHere, goalsOn, e, padded-get 64 given (parent c))
+module _ (sheet : List ℕ) (count c : ℕ) (plan v : List ℕ) (inv : planPaths sheet (count - c) c plan ≡ v) where
+  pub paths-on : (next : List ℕ) → c < count → next ≡ planPath sheet plan c → planPaths sheet (count - (c + 1)) (c + 1) next ≡ v
+  unfolding planPaths
+  paths-on next h e =
+      let less : count - c ≡ suc (count - (c + 1)) = omega arith in
+      rw (e, add-one c) (rw (less, planPaths, add-one c) at inv)
 
-  module _ (goals top c : ℕ) (rows named : List ℕ) (inv : Rows parent count R (startOf goals top) c rows named) where
-    pub rows-on : (here w : ℕ) → c < count → count ≤ 64 → here ≡ goalsHere parent count goals c named
-        → w ≡ kidsAt parent count R (startOf goals top) c here
-        → Rows parent count R (startOf goals top) (c + 1) (set rows c here) (set named c w)
-    unfolding rowsFrom
-    rows-on here w h few e f =
-        let here-is : here ≡ goalsOn parent count R (startOf goals top) c (inv .given) =
-        e ∙ ap (goalsHere parent count goals c) (inv .named-are) ∙ here-same goals top c (inv .given) in
-        let less : count - c ≡ suc (count - (c + 1)) = omega arith in
-        record {
-          done = inv .done ++ (here ∷ []);
-          given = inv .given ++ (w ∷ []);
-          rows-are = ap (λ (l : List ℕ). set l c here) (inv .rows-are) ∙ padded-store 64 (inv .done) c here (inv .rows-long) (omega arith);
-          named-are = ap (λ (l : List ℕ). set l c w) (inv .named-are) ∙ padded-store 64 (inv .given) c w (inv .named-long) (omega arith);
-          rows-long = omega (arith, length-append (inv .done) (here ∷ []), inv .rows-long);
-          named-long = omega (arith, length-append (inv .given) (w ∷ []), inv .named-long);
-          all =
-              append-assoc (inv .done) (here ∷ []) (rowsFrom parent count R (startOf goals top) (count - (c + 1)) (c + 1) (inv .given ++ (w ∷ [])))
-              ∙ rw (f, here-is, add-one c) (rw (less, add-one c, rowsFrom) at (inv .all));
-        }
+  pub paths-end : count ≤ c → plan ≡ v
+  unfolding planPaths
+  paths-end h = rw (let e : count - c ≡ 0 = omega arith in e) at inv
 
-    pub rows-end : count ≤ c → rows ≡ padded 64 (goalRows parent count R (startOf goals top))
-    unfolding rowsFrom
-    rows-end h =
-        inv .rows-are
-        ∙ ap (padded 64) (sym (append-nil (inv .done)) ∙ (rw (let e : count - c ≡ 0 = omega arith in e) at (inv .all)))
+pub paths-start : (sheet : List ℕ) (count goals top : ℕ) (plan : List ℕ) → count ≡ pathsIn sheet → plan ≡ opened sheet goals top
+    → planPaths sheet (count - 0) 0 plan ≡ planPaths sheet (pathsIn sheet) 0 (opened sheet goals top)
+paths-start sheet count goals top plan e f = rw (f, e) (let z : pathsIn sheet - 0 ≡ pathsIn sheet = omega arith in rw z)
 
-pub ruleset rows-laws = (rows-start, rows-on, rows-end)
+pub ruleset paths-laws = (paths-start, paths-on, paths-end)

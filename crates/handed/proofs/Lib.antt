@@ -2,7 +2,8 @@
 pub mod Emitting
 pub mod EmittingParts
 pub mod GoalWords
-pub mod PathWords
 pub mod Places
-pub mod Writable
+pub mod SheetGoals
+pub mod SheetPlan
 pub mod WrittenDocument
+pub mod SetSums

@@ -1,209 +1,133 @@
-// A part of the document, emitted: its path, its child count and its children's numbers, counted or stored too.
-ghost use Prim.Native.Nat.{_≤_, _<_};
+// A part of the document, emitted: its path, its child count and its children's numbers.
+ghost use Prim.Native.Nat.{_+_, _^_, _≤_, _<_};
 ghost use mathlib.Core.Path.{_≡_};
 ghost use mathlib.Core.List.{[], _∷_};
-ghost use lib.ListN.{length};
 ghost use Rattle.files.specs.Sets.{members};
-ghost use Rattle.theory.specs.Handed.{eachOf};
-ghost use Rattle.handed.specs.Emit.{Room, Emitted, oneNumber, wholeNumber, kidsUnder, kidsIn, partIn};
-use crate::numbering::bit_of;
+ghost use Rattle.reachable.specs.Sheet.{row};
+ghost use Rattle.theory.specs.Handed.{gather, eachOf};
+ghost use Rattle.handed.specs.Emit.{Emitted, oneNumber, kidsUnder, kidPaths, kidsOnPath, kidCount, partIn};
 use crate::numbering::number_of;
-use crate::numbering::place_at;
-use crate::words::word_at;
+use crate::plan::PLAN;
+use crate::plan::first_on;
 use files::number;
 use files::sets;
+use reachable::sheet::WORDS;
+use reachable::sheet::above;
+use reachable::sheet::below;
+use reachable::sheet::children;
 
 // A number emitted at `at`; the place after it.
-pub(crate) fn emit(store: bool, n: usize, out: &mut [u8], at: usize) -> usize
-    requires { ⌜ Room (n ∷ []) at ⌝ }
-    ensures { λ r. ⌜ Emitted store (n ∷ []) (now (out .entry)) at (now (out .exit)) r ⌝ }
+pub(crate) fn emit(n: usize, out: &mut [u8], at: usize) -> usize
+    requires { ⌜ at + 2 ≤ 2 ^ 30 ⌝ }
+    ensures { λ r. ⌜ Emitted (n ∷ []) (now (out .entry)) at (now (out .exit)) r × (r ≤ at + 2) ⌝ }
 {
     let v = (n % 16384) as u32;
-    if store {
-        number::store_number(out, at, v);
-        return at + number::size_of(v);
-    }
+    number::store_number(out, at, v);
     at + number::size_of(v)
 }
 
 // The numbers of the parts on path k with one goal of a set.
-fn emit_goals(
-    whole: u64,
-    rows: &[u64; 64],
-    places: &[u32; 64],
-    k: usize,
-    goals: u64,
-    store: bool,
-    out: &mut [u8],
-    start: usize,
-) -> usize
-    requires { ⌜ (k < 64) × Room (eachOf (oneNumber whole (now rows) (now places) k) (members goals)) start ⌝ }
-    ensures { λ r. ⌜ Emitted store (eachOf (oneNumber whole (now (rows .entry)) (now (places .entry)) k) (members goals)) (now (out .entry)) start (now (out .exit)) r ⌝ }
+fn emit_goals(plan: &[u64; PLAN], k: usize, goals: u64, out: &mut [u8], start: usize) -> usize
+    requires { ⌜ (k < 64) × (start + 128 ≤ 2 ^ 30) ⌝ }
+    ensures { λ r. ⌜ Emitted (eachOf (oneNumber (now (plan .entry)) k) (members goals)) (now (out .entry)) start (now (out .exit)) r × (r ≤ start + 128) ⌝ }
 {
     let mut left = goals;
     let mut at = start;
     while left != 0 {
-        at = emit(
-            store,
-            number_of(whole, rows, places, k, sets::lowest(left)),
-            out,
-            at,
-        );
+        at = emit(number_of(plan, k, sets::lowest(left)), out, at);
         left = sets::without_lowest(left);
     }
     at
 }
 
-// The number of the part on path k with all goals, if it is a child.
-fn emit_whole(
-    whole: u64,
-    places: &[u32; 64],
-    handed: bool,
+// The numbers of a part's children on path k; `all`: the one with all goals is among them.
+fn emit_under(
+    plan: &[u64; PLAN],
     k: usize,
-    store: bool,
+    all: bool,
+    goals: u64,
     out: &mut [u8],
     at: usize,
 ) -> usize
-    requires { ⌜ (k < 64) × Room (wholeNumber whole (now places) handed k) at ⌝ }
-    ensures { λ r. ⌜ Emitted store (wholeNumber whole (now (places .entry)) handed k) (now (out .entry)) at (now (out .exit)) r ⌝ }
+    requires { ⌜ (k < 64) × (at + 130 ≤ 2 ^ 30) ⌝ }
+    ensures { λ r. ⌜ Emitted (kidsUnder (now (plan .entry)) k all goals) (now (out .entry)) at (now (out .exit)) r × (r ≤ at + 130) ⌝ }
 {
-    if handed {
-        if sets::has(whole, k) {
-            return emit(store, place_at(places, k), out, at);
-        }
+    if all {
+        let next = emit(first_on(plan, k), out, at);
+        return emit_goals(plan, k, goals, out, next);
     }
-    at
+    emit_goals(plan, k, goals, out, at)
 }
 
-// The numbers of a part's children on path k.
-fn emit_kids_under(
-    below: &[u64; 64],
-    whole: u64,
-    rows: &[u64; 64],
-    places: &[u32; 64],
-    handed: bool,
-    w: u64,
-    k: usize,
-    store: bool,
-    out: &mut [u8],
-    at: usize,
-) -> usize
-    requires { ⌜ (k < 64) × Room (kidsUnder (now below) whole (now rows) (now places) handed w k) at ⌝ }
-    ensures { λ r. ⌜ Emitted store (kidsUnder (now (below .entry)) whole (now (rows .entry)) (now (places .entry)) handed w k) (now (out .entry)) at (now (out .exit)) r ⌝ }
+// The paths at or above a path of a set.
+fn above_any(sheet: &[u64; WORDS], w: u64) -> u64
+    ensures { λ r. ⌜ r ≡ gather (λ g. row 1024 (now (sheet .entry)) g) 64 w 0 ⌝ }
 {
-    let goals = sets::common(w, word_at(below, k));
-    let next = emit_whole(whole, places, handed, k, store, out, at);
-    emit_goals(whole, rows, places, k, goals, store, out, next)
+    let mut left = w;
+    let mut all = 0u64;
+    while left != 0 {
+        all = sets::union(all, above(sheet, sets::lowest(left)));
+        left = sets::without_lowest(left);
+    }
+    all
 }
 
-// The numbers of the children of a part on path c.
+// The child paths of c on which a part there has children.
+fn kid_paths(sheet: &[u64; WORDS], c: usize, more: u64, w: u64) -> u64
+    requires { ⌜ c < 64 ⌝ }
+    ensures { λ r. ⌜ r ≡ kidPaths (now (sheet .entry)) c more w ⌝ }
+{
+    sets::common(sets::union(more, above_any(sheet, w)), children(sheet, c))
+}
+
+// How many children a part on c has.
+fn kid_count(sheet: &[u64; WORDS], c: usize, more: u64, w: u64) -> usize
+    requires { ⌜ c < 64 ⌝ }
+    ensures { λ r. ⌜ r ≡ kidCount (now (sheet .entry)) c more w ⌝ }
+{
+    sets::size(sets::common(more, children(sheet, c))) + sets::size(w)
+}
+
+// The numbers of a part's children on the given paths.
 fn emit_kids(
-    kids: &[u64; 64],
-    below: &[u64; 64],
-    whole: u64,
-    rows: &[u64; 64],
-    places: &[u32; 64],
-    c: usize,
-    handed: bool,
+    sheet: &[u64; WORDS],
+    plan: &[u64; PLAN],
+    more: u64,
     w: u64,
-    store: bool,
+    paths: u64,
     out: &mut [u8],
     start: usize,
 ) -> usize
-    requires { ⌜ (c < 64) × Room (kidsIn (now kids) (now below) whole (now rows) (now places) c handed w) start ⌝ }
-    ensures { λ r. ⌜ Emitted store (kidsIn (now (kids .entry)) (now (below .entry)) whole (now (rows .entry)) (now (places .entry)) c handed w) (now (out .entry)) start (now (out .exit)) r ⌝ }
+    requires { ⌜ start + 8320 ≤ 2 ^ 30 ⌝ }
+    ensures { λ r. ⌜ Emitted (eachOf (kidsOnPath (now (sheet .entry)) (now (plan .entry)) more w) (members paths)) (now (out .entry)) start (now (out .exit)) r × (r ≤ start + 8320) ⌝ }
 {
-    let mut left = word_at(kids, c);
+    let mut left = paths;
     let mut at = start;
     while left != 0 {
-        at = emit_kids_under(
-            below,
-            whole,
-            rows,
-            places,
-            handed,
-            w,
-            sets::lowest(left),
-            store,
-            out,
-            at,
-        );
+        let k = sets::lowest(left);
+        let goals = sets::common(w, below(sheet, k));
+        at = emit_under(plan, k, sets::has(more, k), goals, out, at);
         left = sets::without_lowest(left);
     }
     at
 }
 
-// 1 if the part on path k with all goals is a child, else 0.
-fn count_whole(whole: u64, handed: bool, k: usize) -> usize
-    ensures { λ r. ⌜ (r ≡ length (wholeNumber whole [] handed k)) × (r ≤ 1) ⌝ }
-{
-    if handed {
-        return bit_of(whole, k);
-    }
-    0
-}
-
-// How many children on path k a part has.
-fn count_kids_under(below: &[u64; 64], whole: u64, handed: bool, w: u64, k: usize) -> usize
-    requires { ⌜ k < 64 ⌝ }
-    ensures { λ r. ⌜ (r ≡ length (kidsUnder (now (below .entry)) whole [] [] handed w k)) × (r ≤ 65) ⌝ }
-{
-    let goals = sets::common(w, word_at(below, k));
-    count_whole(whole, handed, k) + sets::size(goals)
-}
-
-// How many children a part on path c has. (Their numbers have no part in that: the contract names them with empty arrays.)
-fn count_kids(
-    kids: &[u64; 64],
-    below: &[u64; 64],
-    whole: u64,
-    c: usize,
-    handed: bool,
-    w: u64,
-) -> usize
-    requires { ⌜ c < 64 ⌝ }
-    ensures { λ r. ⌜ r ≡ length (kidsIn (now (kids .entry)) (now (below .entry)) whole [] [] c handed w) ⌝ }
-{
-    let mut left = word_at(kids, c);
-    let mut many = 0usize;
-    while left != 0 {
-        many += count_kids_under(below, whole, handed, w, sets::lowest(left));
-        left = sets::without_lowest(left);
-    }
-    many
-}
-
-// A part on path c: its path, its child count and its children.
+// A part on path c: its path, its child count and its children. `more` has the paths of the child with all goals, w the others' goals.
 pub(crate) fn emit_part(
-    kids: &[u64; 64],
-    below: &[u64; 64],
-    whole: u64,
-    rows: &[u64; 64],
-    places: &[u32; 64],
+    sheet: &[u64; WORDS],
+    plan: &[u64; PLAN],
     c: usize,
-    handed: bool,
+    more: u64,
     w: u64,
-    store: bool,
     out: &mut [u8],
     at: usize,
 ) -> usize
-    requires { ⌜ (c < 64) × Room (partIn (now kids) (now below) whole (now rows) (now places) c handed w) at ⌝ }
-    ensures { λ r. ⌜ Emitted store (partIn (now (kids .entry)) (now (below .entry)) whole (now (rows .entry)) (now (places .entry)) c handed w) (now (out .entry)) at (now (out .exit)) r ⌝ }
+    requires { ⌜ (c < 64) × (at + 8324 ≤ 2 ^ 30) ⌝ }
+    ensures { λ r. ⌜ Emitted (partIn (now (sheet .entry)) (now (plan .entry)) c more w) (now (out .entry)) at (now (out .exit)) r × (r ≤ at + 8324) ⌝ }
 {
-    let many = count_kids(kids, below, whole, c, handed, w);
-    let after = emit(store, c, out, at);
-    let next = emit(store, many, out, after);
-    emit_kids(
-        kids,
-        below,
-        whole,
-        rows,
-        places,
-        c,
-        handed,
-        w,
-        store,
-        out,
-        next,
-    )
+    let many = kid_count(sheet, c, more, w);
+    let on = kid_paths(sheet, c, more, w);
+    let after = emit(c, out, at);
+    let next = emit(many, out, after);
+    emit_kids(sheet, plan, more, w, on, out, next)
 }

@@ -3,4 +3,4 @@ pub mod document;
 mod emit;
 mod goals;
 mod numbering;
-mod words;
+mod plan;

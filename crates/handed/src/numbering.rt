@@ -1,18 +1,22 @@
-// The parts' numbers: the paths of a depth, the child paths of a path, and the number of the first part on each path.
-ghost use Prim.Native.Nat.{_+_, _^_, _≤_, _<_};
+// The parts' numbers: the paths by depth, and the number of the first part on each path.
+ghost use Prim.Native.Nat.{_+_, _≤_, _<_};
 ghost use mathlib.Core.Path.{_≡_};
 ghost use lib.ListN.{getD};
 ghost use Rattle.files.specs.Sets.{bit, members};
-ghost use Rattle.reachable.specs.Arrays.{parentOf, Parents};
-ghost use Rattle.reachable.specs.Known.{DepthsIn};
-ghost use Rattle.theory.specs.Handed.{partsOn, childPaths, pathOrder};
-ghost use Rattle.handed.specs.Emit.{withIf, layerIn, partsIn, placed, numberIn};
-use files::number::wide;
+ghost use Rattle.theory.specs.Handed.{partsOn};
+ghost use Rattle.handed.specs.Plan.{underIn, orderIn, placing, placeEach};
+ghost use Rattle.handed.specs.Emit.{numberIn};
+use crate::plan::FIRST;
+use crate::plan::PLAN;
+use crate::plan::first_on;
+use crate::plan::goals_on;
+use crate::plan::whole;
 use files::sets;
-use reachable::steps::parent_of;
+use reachable::sheet::WORDS;
+use reachable::sheet::children;
 
 // 1 if path x is in the set, else 0.
-pub(crate) fn bit_of(w: u64, x: usize) -> usize
+fn bit_of(w: u64, x: usize) -> usize
     ensures { λ r. ⌜ (r ≡ bit w x) × (r ≤ 1) ⌝ }
 {
     if sets::has(w, x) {
@@ -21,120 +25,64 @@ pub(crate) fn bit_of(w: u64, x: usize) -> usize
     0
 }
 
-// The set with path x too if a test passes.
-fn with_if(w: u64, test: bool, x: usize) -> u64
-    ensures { λ r. ⌜ r ≡ withIf w test x ⌝ }
+// The child paths of the paths of a set.
+pub(crate) fn under(sheet: &[u64; WORDS], layer: u64) -> u64
+    ensures { λ r. ⌜ r ≡ underIn (now (sheet .entry)) layer ⌝ }
 {
-    if test {
-        return sets::with(w, x);
+    let mut left = layer;
+    let mut all = 0u64;
+    while left != 0 {
+        all = sets::union(all, children(sheet, sets::lowest(left)));
+        left = sets::without_lowest(left);
     }
-    w
-}
-
-// The paths of depth d.
-pub(crate) fn layer_of(depth: &[u8; 64], count: usize, d: usize) -> u64
-    requires { ⌜ count ≤ 64 ⌝ }
-    ensures { λ r. ⌜ (r ≡ layerIn (now (depth .entry)) count d) × (r < 2 ^ count) ⌝ }
-{
-    let mut w = 0u64;
-    let mut x = 0usize;
-    while x < count {
-        w = with_if(w, wide(depth[x]) == d, x);
-        x += 1;
-    }
-    w
-}
-
-// The child paths of c.
-pub(crate) fn child_paths(parent: &[u8; 64], count: usize, c: usize) -> u64
-    requires { ⌜ Parents (now parent) count ⌝ }
-    ensures { λ r. ⌜ r ≡ childPaths (parentOf (now (parent .entry))) count c ⌝ }
-{
-    let mut w = 0u64;
-    let mut x = 1usize;
-    while x < count {
-        w = with_if(w, parent_of(parent, x) == c, x);
-        x += 1;
-    }
-    w
+    all
 }
 
 // How many parts are on path c.
-fn parts_on(whole: u64, rows: &[u64; 64], c: usize) -> usize
+fn parts_on(plan: &[u64; PLAN], c: usize) -> usize
     requires { ⌜ c < 64 ⌝ }
-    ensures { λ r. ⌜ (r ≡ partsOn whole (now (rows .entry)) c) × (r ≤ 65) ⌝ }
+    ensures { λ r. ⌜ (r ≡ partsOn (getD (now (plan .entry)) 192 0) (now (plan .entry)) c) × (r ≤ 65) ⌝ }
 {
-    bit_of(whole, c) + sets::size(rows[c])
+    bit_of(whole(plan), c) + sets::size(goals_on(plan, c))
 }
 
-// The number of the first part on each path of a layer stored, from `start` on; the number after them.
-fn place_layer(
-    whole: u64,
-    rows: &[u64; 64],
-    layer: u64,
-    start: usize,
-    places: &mut [u32; 64],
-) -> usize
+// The parts on the paths of a layer are numbered from `start` on; the number after them.
+fn place_layer(plan: &mut [u64; PLAN], layer: u64, start: usize) -> usize
     requires { ⌜ start ≤ 60000 ⌝ }
-    ensures { λ r. ⌜ (r ≡ start + partsIn whole (now (rows .entry)) (members layer)) × (r ≤ start + 4160) × (now (places .exit) ≡ placed whole (now (rows .entry)) (members layer) start (now (places .entry))) ⌝ }
+    ensures { λ r. ⌜ (placing r (now (plan .exit)) ≡ placeEach (members layer) (placing start (now (plan .entry)))) × (r ≤ start + 4160) ⌝ }
 {
     let mut left = layer;
     let mut at = start;
     while left != 0 {
         let c = sets::lowest(left);
-        places[c] = at as u32;
-        at += parts_on(whole, rows, c);
+        let many = parts_on(plan, c);
+        plan[FIRST + c] = at as u64;
+        at += many;
         left = sets::without_lowest(left);
     }
     at
 }
 
-// The number of the first part on each path stored; how many parts there are.
-pub(crate) fn place_all(
-    parent: &[u8; 64],
-    depth: &[u8; 64],
-    count: usize,
-    whole: u64,
-    rows: &[u64; 64],
-    places: &mut [u32; 64],
-) -> usize
-    requires { ⌜ (count ≤ 64) × DepthsIn (now parent) count (now depth) ⌝ }
-    ensures { λ r. ⌜ (r ≡ partsIn whole (now (rows .entry)) (pathOrder (parentOf (now (parent .entry))) count)) × (r ≤ 33280) × (now (places .exit) ≡ placed whole (now (rows .entry)) (pathOrder (parentOf (now (parent .entry))) count) 0 (now (places .entry))) ⌝ }
+// All parts are numbered; how many there are.
+pub(crate) fn place_all(sheet: &[u64; WORDS], plan: &mut [u64; PLAN]) -> usize
+    ensures { λ r. ⌜ (placing r (now (plan .exit)) ≡ placeEach (orderIn (now (sheet .entry))) (placing 0 (now (plan .entry)))) × (r ≤ 33280) ⌝ }
 {
-    let mut d = 1usize;
+    let mut layer = sets::with(0, 0);
+    let mut d = 0usize;
     let mut at = 0usize;
-    while d < 9 {
-        at = place_layer(whole, rows, layer_of(depth, count, d), at, places);
+    while d < 8 {
+        at = place_layer(plan, layer, at);
+        layer = under(sheet, layer);
         d += 1;
     }
     at
 }
 
-fn wide_number(n: u32) -> usize
-    ensures { λ r. ⌜ (r ≡ n) × (r < 2 ^ 32) ⌝ }
-{
-    n as usize
-}
-
-// The number of the first part on path k.
-pub(crate) fn place_at(places: &[u32; 64], k: usize) -> usize
-    requires { ⌜ k < 64 ⌝ }
-    ensures { λ r. ⌜ (r ≡ getD (now (places .entry)) k 0) × (r < 2 ^ 32) ⌝ }
-{
-    wide_number(places[k])
-}
-
 // The number of the part on path k with the one goal g.
-pub(crate) fn number_of(
-    whole: u64,
-    rows: &[u64; 64],
-    places: &[u32; 64],
-    k: usize,
-    g: usize,
-) -> usize
+pub(crate) fn number_of(plan: &[u64; PLAN], k: usize, g: usize) -> usize
     requires { ⌜ k < 64 ⌝ }
-    ensures { λ r. ⌜ r ≡ numberIn whole (now (rows .entry)) (now (places .entry)) k g ⌝ }
+    ensures { λ r. ⌜ r ≡ numberIn (now (plan .entry)) k g ⌝ }
 {
-    let inside = bit_of(whole, k) + sets::size_below(rows[k], g);
-    place_at(places, k) + inside
+    let before = bit_of(whole(plan), k) + sets::size_below(goals_on(plan, k), g);
+    first_on(plan, k) + before
 }

@@ -1,23 +1,21 @@
 -- `handed::document::emit_layer` meets its contract: what is emitted and what remains is the whole.
+use borrow.Author.Needs.{needs}
 use Rattle.handed.proofs.document.emit_layer.Statement.{statement}
 use Rattle.handed.proofs.document.emit_layer.Tie as tie
-use borrow.Author.Needs.{needs}
-use Prim.Native.Nat.{_^_, _<_}
+use Prim.Native.Nat.{_+_, _^_, _≤_, _<_}
 use mathlib.Core.Path.{_≡_}
 use lib.ListN.{length}
 use Rattle.files.specs.Sets.{members}
-use Rattle.reachable.specs.Arrays.{parentOf}
 use Rattle.theory.specs.Handed.{eachOf}
-use Rattle.handed.specs.Writer.{wordFor, startOf}
 use Rattle.handed.specs.Emit.{partsNumbers}
-use Rattle.handed.proofs.Emitting.{Left}
+use Rattle.handed.proofs.Emitting.{Left, most}
 use Rattle.handed.proofs.EmittingParts.{layer-laws}
 
 abbrev Inv-loop : tie.InvT-loop
-Inv-loop parent depth table count kids below goals top whole rows places layer store out₀ start left₀ at₀ out left at = (left < 2 ^ 64) × (length out ≡ length out₀) × Left store (eachOf (partsNumbers (parentOf parent) count kids below whole rows places (wordFor depth table count) (startOf goals top)) (members left)) out at (eachOf (partsNumbers (parentOf parent) count kids below whole rows places (wordFor depth table count) (startOf goals top)) (members layer)) out₀ start
+Inv-loop sheet plan layer out₀ start left₀ at₀ out left at = (left < 2 ^ 64) × (length out ≡ length out₀) × (at + most 541060 left ≤ start + 34627840) × Left (eachOf (partsNumbers sheet plan) (members left)) out at (eachOf (partsNumbers sheet plan) (members layer)) out₀ start
 
 abbrev μ-loop : tie.MeasureT-loop
-μ-loop parent depth table count kids below goals top whole rows places layer store out₀ start left₀ at₀ out left at = left
+μ-loop sheet plan layer out₀ start left₀ at₀ out left at = left
 
 loop-holds : tie.Need-loop-holds Inv-loop μ-loop
 loop-holds c = search (needs, layer-laws)

@@ -1,20 +1,20 @@
 -- `handed::emit::emit_goals` meets its contract: what is emitted and what remains is the whole.
+use borrow.Author.Needs.{needs}
 use Rattle.handed.proofs.emit.emit_goals.Statement.{statement}
 use Rattle.handed.proofs.emit.emit_goals.Tie as tie
-use borrow.Author.Needs.{needs}
-use Prim.Native.Nat.{_^_, _<_}
+use Prim.Native.Nat.{_+_, _^_, _≤_, _<_}
 use mathlib.Core.Path.{_≡_}
 use lib.ListN.{length}
 use Rattle.files.specs.Sets.{members}
 use Rattle.theory.specs.Handed.{eachOf}
 use Rattle.handed.specs.Emit.{oneNumber}
-use Rattle.handed.proofs.Emitting.{Left, goal-laws}
+use Rattle.handed.proofs.Emitting.{Left, most, goal-laws}
 
 abbrev Inv-loop : tie.InvT-loop
-Inv-loop whole rows places k goals store out₀ start left₀ at₀ out left at = (left < 2 ^ 64) × (length out ≡ length out₀) × Left store (eachOf (oneNumber whole rows places k) (members left)) out at (eachOf (oneNumber whole rows places k) (members goals)) out₀ start
+Inv-loop plan k goals out₀ start left₀ at₀ out left at = (left < 2 ^ 64) × (length out ≡ length out₀) × (at + most 2 left ≤ start + 128) × Left (eachOf (oneNumber plan k) (members left)) out at (eachOf (oneNumber plan k) (members goals)) out₀ start
 
 abbrev μ-loop : tie.MeasureT-loop
-μ-loop whole rows places k goals store out₀ start left₀ at₀ out left at = left
+μ-loop plan k goals out₀ start left₀ at₀ out left at = left
 
 loop-holds : tie.Need-loop-holds Inv-loop μ-loop
 loop-holds c = search (needs, goal-laws)

@@ -1,23 +1,20 @@
 -- `handed::emit::emit_kids` meets its contract: what is emitted and what remains is the whole.
+use borrow.Author.Needs.{needs}
 use Rattle.handed.proofs.emit.emit_kids.Statement.{statement}
 use Rattle.handed.proofs.emit.emit_kids.Tie as tie
-use borrow.Author.Needs.{needs}
-use Prim.Native.Nat.{_^_, _<_}
+use Prim.Native.Nat.{_+_, _^_, _≤_, _<_}
 use mathlib.Core.Path.{_≡_}
 use lib.ListN.{length}
 use Rattle.files.specs.Sets.{members}
 use Rattle.theory.specs.Handed.{eachOf}
-use Rattle.handed.specs.Emit.{kidsUnder, kidsIn}
-use Rattle.handed.proofs.Emitting.{Left, kids-laws}
+use Rattle.handed.specs.Emit.{kidsOnPath}
+use Rattle.handed.proofs.Emitting.{Left, most, kids-laws}
 
 abbrev Inv-loop : tie.InvT-loop
-Inv-loop kids below whole rows places c handed w store out₀ start left₀ at₀ out left at = (left < 2 ^ 64) × (length out ≡ length out₀) × Left store (eachOf (kidsUnder below whole rows places handed w) (members left)) out at (kidsIn kids below whole rows places c handed w) out₀ start
+Inv-loop sheet plan more w paths out₀ start left₀ at₀ out left at = (left < 2 ^ 64) × (length out ≡ length out₀) × (at + most 130 left ≤ start + 8320) × Left (eachOf (kidsOnPath sheet plan more w) (members left)) out at (eachOf (kidsOnPath sheet plan more w) (members paths)) out₀ start
 
 abbrev μ-loop : tie.MeasureT-loop
-μ-loop kids below whole rows places c handed w store out₀ start left₀ at₀ out left at = left
-
-word-at-requires : tie.Need-word-at-requires Inv-loop μ-loop
-word-at-requires c κs = search (needs, kids-laws)
+μ-loop sheet plan more w paths out₀ start left₀ at₀ out left at = left
 
 loop-holds : tie.Need-loop-holds Inv-loop μ-loop
 loop-holds c = search (needs, kids-laws)
@@ -25,8 +22,17 @@ loop-holds c = search (needs, kids-laws)
 lowest-requires : tie.Need-lowest-requires Inv-loop μ-loop
 lowest-requires c κs = search (needs, kids-laws)
 
-emit-kids-under-requires : tie.Need-emit-kids-under-requires Inv-loop μ-loop
-emit-kids-under-requires c κs = search (needs, kids-laws)
+below-requires : tie.Need-below-requires Inv-loop μ-loop
+below-requires c κs = search (needs, kids-laws)
+
+common-requires : tie.Need-common-requires Inv-loop μ-loop
+common-requires c κs = search (needs, kids-laws)
+
+has-requires : tie.Need-has-requires Inv-loop μ-loop
+has-requires c κs = search (needs, kids-laws)
+
+emit-under-requires : tie.Need-emit-under-requires Inv-loop μ-loop
+emit-under-requires c κs = search (needs, kids-laws)
 
 without-lowest-requires : tie.Need-without-lowest-requires Inv-loop μ-loop
 without-lowest-requires c κs = search (needs, kids-laws)
@@ -49,10 +55,12 @@ emit-kids-spec =
     (tie.spec
     Inv-loop
     μ-loop
-    word-at-requires
     loop-holds
     lowest-requires
-    emit-kids-under-requires
+    below-requires
+    common-requires
+    has-requires
+    emit-under-requires
     without-lowest-requires
     loop-less
     loop-again

@@ -1,19 +1,17 @@
--- `handed::goals::fill` meets its contract: the highest path left gets a child.
+-- `handed::goals::fill` meets its contract: what is chosen and what remains is the whole.
+use borrow.Author.Needs.{needs}
 use Rattle.handed.proofs.goals.fill.Statement.{statement}
 use Rattle.handed.proofs.goals.fill.Tie as tie
-use borrow.Author.Needs.{needs}
-use Prim.Native.Nat.{_^_, _<_, _≤_}
+use Prim.Native.Nat.{_^_, _<_}
 use mathlib.Core.Path.{_≡_}
-use Rattle.reachable.specs.Arrays.{parentOf}
-use Rattle.theory.specs.Handed.{fillWord}
-use Rattle.handed.specs.Writer.{wordFor}
+use Rattle.handed.specs.Goals.{fillIn}
 use Rattle.handed.proofs.GoalWords.{choose-laws}
 
 abbrev Inv-loop : tie.InvT-loop
-Inv-loop parent depth table count c uncovered own left₀ chosen₀ fuel₀ left chosen fuel = (left < 2 ^ 64) × (fuel ≤ 64) × (fillWord (parentOf parent) count (wordFor depth table count) c fuel left chosen ≡ fillWord (parentOf parent) count (wordFor depth table count) c 64 uncovered own)
+Inv-loop sheet d uncovered own left₀ chosen₀ fuel₀ left chosen fuel = (left < 2 ^ 64) × (d < 8) × (fillIn sheet d fuel left chosen ≡ fillIn sheet d 64 uncovered own)
 
 abbrev μ-loop : tie.MeasureT-loop
-μ-loop parent depth table count c uncovered own left₀ chosen₀ fuel₀ left chosen fuel = fuel
+μ-loop sheet d uncovered own left₀ chosen₀ fuel₀ left chosen fuel = fuel
 
 loop-holds : tie.Need-loop-holds Inv-loop μ-loop
 loop-holds c = search (needs, choose-laws)
@@ -24,8 +22,11 @@ returns c = search (needs, choose-laws)
 highest-requires : tie.Need-highest-requires Inv-loop μ-loop
 highest-requires c κs = search (needs, choose-laws)
 
-covered-requires : tie.Need-covered-requires Inv-loop μ-loop
-covered-requires c κs = search (needs, choose-laws)
+add-inside : tie.Need-add-inside Inv-loop μ-loop
+add-inside c = search (needs, choose-laws)
+
+inside-requires : tie.Need-inside-requires Inv-loop μ-loop
+inside-requires c κs = search (needs, choose-laws)
 
 difference-requires : tie.Need-difference-requires Inv-loop μ-loop
 difference-requires c κs = search (needs, choose-laws)
@@ -54,7 +55,8 @@ fill-spec =
     loop-holds
     returns
     highest-requires
-    covered-requires
+    add-inside
+    inside-requires
     difference-requires
     with-requires
     sub-fuel

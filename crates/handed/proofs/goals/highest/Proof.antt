@@ -1,4 +1,5 @@
 -- `handed::goals::highest` meets its contract: the zeros at the word's high end.
+use borrow.Author.Needs.{needs}
 use Rattle.handed.proofs.goals.highest.Statement.{statement}
 use Rattle.handed.proofs.goals.highest.Tie as tie
 use native.Mathlib.Omega.{arith}

@@ -1,4 +1,4 @@
--- `handed::numbering::bit_of` meets its contract: the test's number.
+-- `handed::numbering::bit_of` meets its contract.
 use borrow.Author.Needs.{needs}
 use Rattle.handed.proofs.numbering.bit_of.Statement.{statement}
 use Rattle.handed.proofs.numbering.bit_of.Tie as tie

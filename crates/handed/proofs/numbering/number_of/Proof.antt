@@ -1,26 +1,26 @@
--- `handed::numbering::number_of` meets its contract: what stands before it on its path.
+-- `handed::numbering::number_of` meets its contract.
 use borrow.Author.Needs.{needs}
 use Rattle.handed.proofs.numbering.number_of.Statement.{statement}
 use Rattle.handed.proofs.numbering.number_of.Tie as tie
 use Rattle.handed.proofs.Emitting.{number-is}
 
+whole-requires : tie.Need-whole-requires
+whole-requires c κs = search needs
+
 bit-of-requires : tie.Need-bit-of-requires
 bit-of-requires c κs = search needs
 
-mul-size-below : tie.Need-mul-size-below
-mul-size-below c = search needs
-
-element-copy-out-size-below : tie.Need-element-copy-out-size-below
-element-copy-out-size-below c = search needs
+goals-on-requires : tie.Need-goals-on-requires
+goals-on-requires c κs = search needs
 
 size-below-requires : tie.Need-size-below-requires
 size-below-requires c κs = search needs
 
-add-inside : tie.Need-add-inside
-add-inside c = search needs
+add-before : tie.Need-add-before
+add-before c = search needs
 
-place-at-requires : tie.Need-place-at-requires
-place-at-requires c κs = search needs
+first-on-requires : tie.Need-first-on-requires
+first-on-requires c κs = search needs
 
 add-result : tie.Need-add-result
 add-result c = search needs
@@ -32,11 +32,11 @@ pub number-of-spec : {M : Type 1} → statement M
 number-of-spec =
     tie.close
     (tie.spec
+    whole-requires
     bit-of-requires
-    mul-size-below
-    element-copy-out-size-below
+    goals-on-requires
     size-below-requires
-    add-inside
-    place-at-requires
+    add-before
+    first-on-requires
     add-result
     returns)

@@ -1,28 +1,29 @@
--- `handed::numbering::place_all` meets its contract: layer by layer, what remains is the whole.
+-- `handed::numbering::place_all` meets its contract: what is numbered and what remains is the whole.
+use borrow.Author.Needs.{needs}
 use Rattle.handed.proofs.numbering.place_all.Statement.{statement}
 use Rattle.handed.proofs.numbering.place_all.Tie as tie
-use borrow.Author.Needs.{needs}
-use Prim.Native.Nat.{_+_, _*_, _-_, _≤_}
+use Prim.Native.Nat.{_+_, _-_, _*_, _≤_}
 use mathlib.Core.Path.{_≡_}
-use Rattle.reachable.specs.Arrays.{parentOf}
-use Rattle.theory.specs.Handed.{layersFrom, pathOrder}
-use Rattle.handed.specs.Emit.{partsIn, placed}
+use Rattle.handed.specs.Plan.{layersIn, orderIn, placing, placeEach}
 use Rattle.handed.proofs.Places.{order-laws}
 
 abbrev Inv-loop : tie.InvT-loop
-Inv-loop parent depth count whole rows places₀ d₀ at₀ places d at = (1 ≤ d) × (d ≤ 9) × (at + 4160 ≤ 4160 * d) × (at + partsIn whole rows (layersFrom (parentOf parent) count (9 - d) d) ≡ partsIn whole rows (pathOrder (parentOf parent) count)) × (placed whole rows (layersFrom (parentOf parent) count (9 - d) d) at places ≡ placed whole rows (pathOrder (parentOf parent) count) 0 places₀)
+Inv-loop sheet plan₀ layer₀ d₀ at₀ plan layer d at = (d ≤ 8) × (at + 4160 * (8 - d) ≤ 33280) × (placeEach (layersIn sheet (8 - d) layer) (placing at plan) ≡ placeEach (orderIn sheet) (placing 0 plan₀))
 
 abbrev μ-loop : tie.MeasureT-loop
-μ-loop parent depth count whole rows places₀ d₀ at₀ places d at = 9 - d
+μ-loop sheet plan₀ layer₀ d₀ at₀ plan layer d at = 8 - d
+
+with-requires : tie.Need-with-requires Inv-loop μ-loop
+with-requires c κs = search (needs, order-laws)
 
 loop-holds : tie.Need-loop-holds Inv-loop μ-loop
 loop-holds c = search (needs, order-laws)
 
-layer-of-requires : tie.Need-layer-of-requires Inv-loop μ-loop
-layer-of-requires c κs = search (needs, order-laws)
-
 place-layer-requires : tie.Need-place-layer-requires Inv-loop μ-loop
 place-layer-requires c κs = search (needs, order-laws)
+
+under-requires : tie.Need-under-requires Inv-loop μ-loop
+under-requires c κs = search (needs, order-laws)
 
 add-d : tie.Need-add-d Inv-loop μ-loop
 add-d c = search (needs, order-laws)
@@ -42,9 +43,10 @@ place-all-spec =
     (tie.spec
     Inv-loop
     μ-loop
+    with-requires
     loop-holds
-    layer-of-requires
     place-layer-requires
+    under-requires
     add-d
     loop-less
     loop-again
