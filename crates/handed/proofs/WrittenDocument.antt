@@ -219,9 +219,9 @@ module _ {parent : ℕ → ℕ} {rules : List Rule} {count : ℕ} {sheet : List 
         let h = mem-members w x small .0 m in
         total-same (λ k. bit (subtree parent count k) x) (bit (row aboveAt sheet x)) (members (childPaths parent count c))
         (λ k n.
-            let r = subtree-iff desc k count (child-in k n) few x in
-            let a = told .paths .above x k (inner x h .1) in
-            same-bit (subtree parent count k) (row aboveAt sheet x) x k (λ y. a .1 (r .0 y .1), λ y. r .1 (inner x h .1, a .0 y)))
+        let r = subtree-iff desc k count (child-in k n) few x in
+        let a = told .paths .above x k (inner x h .1) in
+        same-bit (subtree parent count k) (row aboveAt sheet x) x k (λ y. a .1 (r .0 y .1), λ y. r .1 (inner x h .1, a .0 y)))
         ∙ total-bits (row aboveAt sheet x) (childPaths parent count c)
         ∙ ap (λ (z : ℕ). size (common (row aboveAt sheet x) z)) (sym (children-are c hc))
         ∙ ap size (below-one x h)

@@ -13,11 +13,11 @@ use Rattle.files.specs.Number.{bytesOfAll}
 use Rattle.files.specs.Rules.{parentsIn, ValidTable}
 use Rattle.files.specs.Sets.{withPath}
 use Rattle.files.specs.TableTest.{tablePasses}
-use Rattle.files.specs.Writing.{put, Puts}
+use Rattle.files.specs.Writing.{put, wrapped, Puts}
 use Rattle.files.proofs.TableTests.{passes-valid}
 use Rattle.documents.specs.Judgement.{parentsOf}
 use Rattle.documents.specs.Paths.{contextOf}
-use Rattle.theory.specs.Reachable.{reachb}
+use Rattle.theory.specs.Reachable.{reachb, reachable}
 use Rattle.theory.specs.Decide.{clashing}
 use Rattle.theory.specs.Evidence.{impliesb, yesb, implicationNumbers, evidenceNumbers}
 use Rattle.theory.specs.Handed.{handedNumbers, Start, startNo, startBoth}
@@ -25,22 +25,21 @@ use Rattle.theory.proofs.HandedRows.{Begins}
 use Rattle.reachable.specs.Arrays.{parentOf, ruleList}
 use Rattle.reachable.specs.Sheet.{contextIn, laid}
 use Rattle.reachable.specs.Grow.{withSets, sheetOf}
-use Rattle.reachable.specs.Known.{DepthsIn, FirstWords, Known}
 use Rattle.evidence.specs.declared.ground.Ground.the-variants.{None, Direct}
 use Rattle.evidence.specs.declared.ground.Both.{Both}
 use Rattle.evidence.specs.Choices.{clashingIn}
 use Rattle.evidence.specs.Grounds.{given, saysYes, InRange, directIn, groundsOn, groundNumbers}
 use Rattle.evidence.proofs.Walking.{context-same, direct-same, direct-numbers}
 use Rattle.evidence.proofs.GroundJoins.{none-range, direct-range, question-yes, question-written, question-in, question-there}
-use Rattle.handed.specs.Emit.{Writable}
-use Rattle.handed.specs.Writer.{wordFor, startOf}
-use Rattle.handed.proofs.Writable.{table-words, writable}
+use Rattle.handed.specs.Writer.{startOf, documentIn}
+use Rattle.handed.proofs.WrittenDocument.{document-written}
+use Rattle.theory.proofs.HandedDocuments.{reachable-words}
 use Rattle.reasoning.specs.declared.question.Reply.{Reply}
 use Rattle.reasoning.specs.declared.question.Begins.{Begins as Beginning}
 use Rattle.reasoning.specs.Calls.{askable, answerOf, AnswersQuestion}
-use Rattle.reasoning.specs.Lent.{PassedQuestion, LentQuestion, Denied, Told, counterOn}
+use Rattle.reasoning.specs.Lent.{PassedQuestion, LentQuestion, Denied, Told, counterOn, counterNumbers}
 use Rattle.reasoning.proofs.CallLaws.{ask-refuses, ask-bars, ask-shows, ask-hands}
-use Rattle.reasoning.proofs.Calling.{passed-sound, passed-fits, passed-laid, passed-says, passed-clash, lent-known, valid-passed}
+use Rattle.reasoning.proofs.Calling.{passed-sound, passed-fits, passed-laid, passed-says, passed-clash, valid-passed}
 use Rattle.reasoning.proofs.QuestionJoins.{askable-asked, counter-begins}
 use Rattle.reasoning.proofs.TableArrays.{arrays-parents, arrays-rules}
 use Rattle.reasoning.proofs.ValidFits.{table-fits}
@@ -257,23 +256,35 @@ module _ (t : Rules) (word : t .required < 2 ^ 64) (parent sheet : List ℕ) (ki
               (n .begins))),
         )
 
-    module _ (depth table : List ℕ) (depths : DepthsIn parent (t .paths) depth) (first : FirstWords sheet 512 table) where
-      known : Known parent (t .kind) (t .left) (t .right) (t .paths) (t .rules) depth table
-      known = lent-known t word parent sheet (h .asked .lent) depth table depths first
+    -- the counter-document was put
+    counter-put : (out : List ℕ) (w : Written) (r : Reply) (after : List ℕ)
+        → Puts (put (bytesOfAll (wrapped (documentIn sheet (b .goals) (b .top)))) out) w after
+        → r ≡ answerOf Reply.No Reply.Refused w → AnswersQuestion t kind p q out r after
+    counter-put out w r after f g =
+        let fits = passed-fits t word parent (h .asked .lent .passed) in
+        ask-hands t kind p q out word (h .asked .lent .passed .passes) (h .asked .can) parent (h .asked .lent .passed .lent) (reachable-words fits)
+        (h .denies) w r after
+        (subst (λ (s : Start). Puts (put (bytesOfAll (handedNumbers (parentOf parent) (t .paths)
+        (reachable (parentOf parent) (ruleList (t .kind) (t .left) (t .right) (t .rules)) (t .paths)) s)) out) w after) start-is
+        (document-written fits (passed-sound t word parent (h .asked .lent .passed) .parents .shallow) (b .goals) (b .top) (begins .1) sheet out after w
+        (h .asked .lent .laid) f))
+        g
 
-      pub counter-writable : Writable parent depth table (t .paths) (b .goals) (b .top)
-      counter-writable =
-          writable parent (t .kind) (t .left) (t .right) (t .paths) (t .rules) depth table known (b .goals) (b .top) (begins .1)
+  pub counter-told : (out : List ℕ) (r : Reply) (after : List ℕ)
+      → Told Reply.No Reply.Refused (counterNumbers sheet kind p q holds) out r after → AnswersQuestion t kind p q out r after
+  unfolding counterNumbers
+  counter-told out r after w = counter-put (counterOn sheet kind p q holds) refl out (w .written) r after (w .puts) (w .is)
 
-      pub counter-put : (out : List ℕ) (w : Written) (r : Reply) (after : List ℕ)
-          → Puts (put (bytesOfAll (handedNumbers (parentOf parent) (t .paths) (wordFor depth table (t .paths)) (startOf (b .goals) (b .top)))) out) w after
-          → r ≡ answerOf Reply.No Reply.Refused w → AnswersQuestion t kind p q out r after
-      counter-put out w r after f g =
-          ask-hands t kind p q out word (h .asked .lent .passed .passes) (h .asked .can) parent (h .asked .lent .passed .lent)
-          (table-words parent (t .kind) (t .left) (t .right) (t .paths) (t .rules) depth table known)
-          (h .denies) w r after
-          (subst (λ (s : Start). Puts (put (bytesOfAll (handedNumbers (parentOf parent) (t .paths) (wordFor depth table (t .paths)) s)) out) w after) start-is f)
-          g
+-- the document that begins as it should was put
+pub begun-told : (sheet out : List ℕ) (kind p q : ℕ) (holds : Bool) (b : Beginning) → b ≡ counterOn sheet kind p q holds
+    → (w : Written) (r : Reply) (after : List ℕ) → Puts (put (bytesOfAll (wrapped (documentIn sheet (b .goals) (b .top)))) out) w after
+    → r ≡ answerOf Reply.No Reply.Refused w → Told Reply.No Reply.Refused (counterNumbers sheet kind p q holds) out r after
+unfolding counterNumbers
+begun-told sheet out kind p q holds b e w r after f g = record {
+  written = w;
+  puts = subst (λ (v : Beginning). Puts (put (bytesOfAll (wrapped (documentIn sheet (v .goals) (v .top)))) out) w after) e f;
+  is = g;
+}
 
 -- ---- a question that can be asked, of a table that passed its test
 

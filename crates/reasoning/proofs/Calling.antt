@@ -16,29 +16,27 @@ use Rattle.files.specs.Writing.{put, wrapped, Puts}
 use Rattle.files.specs.Sets.{withPath}
 use Rattle.files.proofs.TableTests.{passes-valid}
 use Rattle.documents.specs.Judgement.{parentsOf}
-use Rattle.theory.specs.Reachable.{Fits}
+use Rattle.theory.specs.Reachable.{Fits, reachable}
 use Rattle.theory.specs.Evidence.{consistentb}
 use Rattle.theory.specs.Decide.{clashing}
 use Rattle.theory.specs.Handed.{handedNumbers}
+use Rattle.theory.proofs.HandedDocuments.{reachable-words}
 use Rattle.theory.proofs.HandedRows.{Begins}
 use Rattle.reachable.specs.Arrays.{parentOf, ruleList, Parents, Sound}
 use Rattle.reachable.specs.Sheet.{laid}
 use Rattle.reachable.specs.SheetWords.{LaidOut, Says}
 use Rattle.reachable.specs.Grow.{sheetOf}
-use Rattle.reachable.specs.Known.{DepthsIn, FirstWords, Known}
 use Rattle.reachable.proofs.Filling.{sound-fits}
 use Rattle.reachable.proofs.RuleRows.{Kinds}
 use Rattle.reachable.proofs.Sheets.{laid-out, sheet-says}
-use Rattle.reachable.proofs.Reaching.{table-reaches}
 use Rattle.evidence.specs.declared.ground.Ground.{Ground}
 use Rattle.evidence.specs.Stored.{Stored}
 use Rattle.evidence.specs.Choices.{clashingIn}
 use Rattle.evidence.specs.Grounds.{given, InRange, conflictGround, groundNumbers}
 use Rattle.evidence.proofs.Joins.{clashing-same}
 use Rattle.evidence.proofs.GroundJoins.{conflict-given, conflict-written, conflict-in}
-use Rattle.handed.specs.Emit.{Writable}
-use Rattle.handed.specs.Writer.{wordFor, startOf}
-use Rattle.handed.proofs.Writable.{table-words, writable}
+use Rattle.handed.specs.Writer.{startOf, documentIn}
+use Rattle.handed.proofs.WrittenDocument.{document-written}
 use Rattle.reasoning.specs.declared.consistency.Verdict.{Verdict}
 use Rattle.reasoning.specs.Calls.{answerOf, DecidesConsistency}
 use Rattle.reasoning.specs.Lent.{Passed, LentSheet, Witnessed, Told}
@@ -90,7 +88,7 @@ module _ (t : Rules) (word : t .required < 2 ^ 64) (parent : List ℕ) (h : Pass
         agrees =
             sym (test ∙ ap given is ∙ conflict-given passed-fits (passed-sound .parents .some) passed-says needed clash (passed-clash clash c))
 
-        pub passed-witnessed : b ≡ false → Witnessed t parent sheet needed
+        passed-witnessed : b ≡ false → Witnessed t parent sheet needed
         passed-witnessed z = record { lent = record { passed = h; laid = e }; needed-is = f; agrees = not-false _ (agrees ∙ z) }
 
         pub passed-conflict : (out : List ℕ) (r : Verdict) (after : List ℕ) → b ≡ true
@@ -105,22 +103,9 @@ module _ (t : Rules) (word : t .required < 2 ^ 64) (parent : List ℕ) (h : Pass
             ∙ conflict-written passed-fits (passed-sound .parents .some) passed-says needed clash (passed-clash clash c) no))
             (w .written) r after (w .puts) (w .is)
 
--- ---- a table whose sheet is lent, with the table of its reachable sets
+-- ---- a consistent table: its witness was put
 
-module _ (t : Rules) (word : t .required < 2 ^ 64) (parent sheet : List ℕ) (h : LentSheet t parent sheet) (depth table : List ℕ)
-    (depths : DepthsIn parent (t .paths) depth) (first : FirstWords sheet 512 table) where
-  pub lent-known : Known parent (t .kind) (t .left) (t .right) (t .paths) (t .rules) depth table
-  lent-known = record {
-    sound = passed-sound t word parent (h .passed);
-    reaches = table-reaches parent (t .kind) (t .left) (t .right) (t .paths) (t .rules) depth table sheet
-        (passed-sound t word parent (h .passed)) depths (h .laid) first;
-  }
-
-module _ (t : Rules) (word : t .required < 2 ^ 64) (parent sheet : List ℕ) (needed : ℕ) (h : Witnessed t parent sheet needed)
-    (depth table : List ℕ) (depths : DepthsIn parent (t .paths) depth) (first : FirstWords sheet 512 table) where
-  known : Known parent (t .kind) (t .left) (t .right) (t .paths) (t .rules) depth table
-  known = lent-known t word parent sheet (h .lent) depth table depths first
-
+module _ (t : Rules) (word : t .required < 2 ^ 64) (parent sheet : List ℕ) (needed : ℕ) (h : Witnessed t parent sheet needed) where
   table-valid : ValidTable t
   table-valid = passes-valid t word .0 (h .lent .passed .passes)
 
@@ -130,20 +115,28 @@ module _ (t : Rules) (word : t .required < 2 ^ 64) (parent sheet : List ℕ) (ne
       (sym (arrays-parents t table-valid parent (h .lent .passed .lent)))
       (subst (λ (a : ℕ). Begins (parentsOf t) (t .paths) (0 ∷ rulesOf t .required) (startOf a 0)) (sym (h .needed-is)) (asked-begins t word table-valid))
 
-  pub witness-writable : Writable parent depth table (t .paths) needed 0
-  witness-writable = writable parent (t .kind) (t .left) (t .right) (t .paths) (t .rules) depth table known needed 0 begins
-
-  pub witness-put : (out : List ℕ) (w : Written) (r : Verdict) (after : List ℕ)
-      → Puts (put (bytesOfAll (handedNumbers (parentOf parent) (t .paths) (wordFor depth table (t .paths)) (startOf needed 0))) out) w after
-      → r ≡ answerOf Verdict.Consistent Verdict.Refused w → DecidesConsistency t out r after
-  witness-put out w r after p g =
-      consistency-hands t out word (h .lent .passed .passes) parent (h .lent .passed .lent)
-      (table-words parent (t .kind) (t .left) (t .right) (t .paths) (t .rules) depth table known)
+  witness-told : (out : List ℕ) (r : Verdict) (after : List ℕ)
+      → Told Verdict.Consistent Verdict.Refused (documentIn sheet needed 0) out r after → DecidesConsistency t out r after
+  witness-told out r after w =
+      let fits = passed-fits t word parent (h .lent .passed) in
+      consistency-hands t out word (h .lent .passed .passes) parent (h .lent .passed .lent) (reachable-words fits)
       (subst (λ (a : ℕ). consistentb (parentOf parent) (ruleList (t .kind) (t .left) (t .right) (t .rules)) (t .paths) a ≡ true) (h .needed-is) (h .agrees))
-      w r after
-      (subst (λ (a : ℕ). Puts (put (bytesOfAll (handedNumbers (parentOf parent) (t .paths) (wordFor depth table (t .paths)) (startOf a 0))) out) w after)
-      (h .needed-is) p)
-      g
+      (w .written) r after
+      (subst (λ (a : ℕ). Puts (put (bytesOfAll (handedNumbers (parentOf parent) (t .paths)
+      (reachable (parentOf parent) (ruleList (t .kind) (t .left) (t .right) (t .rules)) (t .paths)) (startOf a 0))) out) (w .written) after)
+      (h .needed-is)
+      (document-written fits (passed-sound t word parent (h .lent .passed) .parents .shallow) needed 0 begins sheet out after (w .written) (h .lent .laid)
+      (w .puts)))
+      (w .is)
+
+-- a table that passed its test and whose ground of conflict is none: its witness was put
+module _ (t : Rules) (word : t .required < 2 ^ 64) (parent : List ℕ) (h : Passed t parent) (sheet : List ℕ)
+    (e : sheet ≡ sheetOf (parentOf parent) (ruleList (t .kind) (t .left) (t .right) (t .rules)) (t .paths)) (clash : ℕ) (c : clash ≡ clashingIn sheet)
+    (needed : ℕ) (f : needed ≡ withPath (t .required) 0) (g : Ground) (is : g ≡ conflictGround sheet clash needed) (b : Bool) (test : b ≡ given g) where
+  pub passed-witness : (out : List ℕ) (r : Verdict) (after : List ℕ) → b ≡ false
+      → Told Verdict.Consistent Verdict.Refused (documentIn sheet needed 0) out r after → DecidesConsistency t out r after
+  passed-witness out r after z w =
+      witness-told t word parent sheet needed (passed-witnessed t word parent h sheet e clash c needed f g is b test z) out r after w
 
 -- ---- evidence that was collected
 

@@ -14,6 +14,7 @@ use Rattle.files.specs.Writing.{put, wrapped, Puts}
 use Rattle.reachable.specs.Arrays.{parentOf, ruleList}
 use Rattle.reachable.specs.Sheet.{contextIn}
 use Rattle.reachable.specs.Grow.{sheetOf}
+use Rattle.handed.specs.Writer.{documentIn}
 use Rattle.reasoning.specs.declared.question.Begins.{Begins}
 use Rattle.reasoning.specs.Calls.{answerOf, askedOf, askable}
 use Rattle.theory.specs.Evidence.{consistentb, impliesb, yesb}
@@ -70,3 +71,7 @@ counterOn sheet kind p q holds =
         | false ↦ begin (withPath 0 p) p
       ]
     ]
+
+-- the numbers of that counter-document
+unfoldable pub counterNumbers : (sheet : List ℕ) (kind p q : ℕ) (holds : Bool) → List ℕ
+counterNumbers sheet kind p q holds = documentIn sheet (counterOn sheet kind p q holds .goals) (counterOn sheet kind p q holds .top)

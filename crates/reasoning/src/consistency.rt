@@ -1,8 +1,9 @@
 // Whether rules are consistent with the required paths.
 ghost use mathlib.Core.Path.{_≡_};
 ghost use Rattle.evidence.specs.Grounds.{InRange, groundNumbers};
+ghost use Rattle.handed.specs.Writer.{documentIn};
 ghost use Rattle.reasoning.specs.Calls.{answerOf, DecidesConsistency};
-ghost use Rattle.reasoning.specs.Lent.{Passed, Witnessed, Told};
+ghost use Rattle.reasoning.specs.Lent.{Passed, Told};
 use evidence::choose::clashing;
 use evidence::collect::put_ground;
 use evidence::decide::conflict;
@@ -16,8 +17,6 @@ use files::write::Written;
 use files::write::put_numbers;
 use handed::document::write_document;
 use reachable::grow::sheet_of;
-use reachable::reach::depths;
-use reachable::reach::reach_table;
 use reachable::sheet::WORDS;
 
 // Consistent with a document of so many bytes, inconsistent with evidence of so many bytes, or the refusal's number and place.
@@ -48,19 +47,10 @@ fn shown(w: Written) -> Verdict
 }
 
 // A consistent set: its witness is put into the buffer.
-fn put_witness(
-    rules: Rules,
-    parent: &[u8; 64],
-    sheet: &[u64; WORDS],
-    needed: u64,
-    out: &mut [u8],
-) -> Verdict
-    requires { ⌜ Witnessed rules (now parent) (now sheet) needed ⌝ }
-    ensures { λ r. ⌜ DecidesConsistency rules (now (out .entry)) r (now (out .exit)) ⌝ }
+fn put_witness(sheet: &[u64; WORDS], needed: u64, out: &mut [u8]) -> Verdict
+    ensures { λ r. ⌜ Told Verdict.Consistent Verdict.Refused (documentIn (now (sheet .entry)) needed 0) (now (out .entry)) r (now (out .exit)) ⌝ }
 {
-    let depth = depths(parent, rules.paths);
-    let table = reach_table(sheet);
-    witnessed(write_document(parent, &depth, &table, rules.paths, needed, 0, out))
+    witnessed(write_document(sheet, needed, 0, out))
 }
 
 // An inconsistent set: its evidence is put into the buffer.
@@ -87,7 +77,7 @@ fn decide(rules: Rules, parent: &[u8; 64], out: &mut [u8]) -> Verdict
     if given(g) {
         return put_conflict(&sheet, g, out);
     }
-    put_witness(rules, parent, &sheet, needed, out)
+    put_witness(&sheet, needed, out)
 }
 
 // Whether the rules are consistent with the required paths: a witness or the evidence is put into the buffer.

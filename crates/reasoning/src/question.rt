@@ -4,7 +4,7 @@ ghost use mathlib.Core.Path.{_≡_};
 ghost use mathlib.Core.List.{_++_};
 ghost use Rattle.evidence.specs.Grounds.{InRange, groundNumbers};
 ghost use Rattle.reasoning.specs.Calls.{answerOf, askable, AnswersQuestion};
-ghost use Rattle.reasoning.specs.Lent.{Told, counterOn, LentQuestion, Denied, PassedQuestion};
+ghost use Rattle.reasoning.specs.Lent.{Told, counterOn, counterNumbers, LentQuestion, PassedQuestion};
 use evidence::choose::clashing;
 use evidence::collect::put_both;
 use evidence::decide::grounds;
@@ -22,8 +22,6 @@ use files::write::put_numbers;
 use handed::document::write_document;
 use reachable::grow::grow_sets;
 use reachable::lay::lay;
-use reachable::reach::depths;
-use reachable::reach::reach_table;
 use reachable::sheet::WORDS;
 use reachable::sheet::context;
 
@@ -97,7 +95,7 @@ struct Begins {
 // one if the first holds.
 fn counter(sheet: &[u64; WORDS], c: Question, holds: bool) -> Begins
     requires { ⌜ (c .first < 64) × (c .second < 64) ⌝ }
-    ensures { λ r. ⌜ r ≡ counterOn (now (sheet .entry)) (c .kind) (c .first) (c .second) holds ⌝ }
+    ensures { λ r. ⌜ (r ≡ counterOn (now (sheet .entry)) (c .kind) (c .first) (c .second) holds) × (r .top < 64) ⌝ }
 {
     let p = c.first;
     let q = c.second;
@@ -118,21 +116,12 @@ fn counter(sheet: &[u64; WORDS], c: Question, holds: bool) -> Begins
 }
 
 // A no: its counter-document is put into the buffer.
-fn put_no(
-    rules: Rules,
-    parent: &[u8; 64],
-    sheet: &[u64; WORDS],
-    c: Question,
-    holds: bool,
-    out: &mut [u8],
-) -> Reply
-    requires { ⌜ Denied rules (now parent) (now sheet) (c .kind) (c .first) (c .second) holds ⌝ }
-    ensures { λ r. ⌜ AnswersQuestion rules (c .kind) (c .first) (c .second) (now (out .entry)) r (now (out .exit)) ⌝ }
+fn put_no(sheet: &[u64; WORDS], c: Question, holds: bool, out: &mut [u8]) -> Reply
+    requires { ⌜ (c .first < 64) × (c .second < 64) ⌝ }
+    ensures { λ r. ⌜ Told Reply.No Reply.Refused (counterNumbers (now (sheet .entry)) (c .kind) (c .first) (c .second) holds) (now (out .entry)) r (now (out .exit)) ⌝ }
 {
     let b = counter(sheet, c, holds);
-    let depth = depths(parent, rules.paths);
-    let table = reach_table(sheet);
-    denied(write_document(parent, &depth, &table, rules.paths, b.goals, b.top, out))
+    denied(write_document(sheet, b.goals, b.top, out))
 }
 
 // The reply by the grounds of the question, once all sets are grown.
@@ -151,7 +140,7 @@ fn settle(
         return put_yes(sheet, b, out);
     }
     let first = b.first;
-    put_no(rules, parent, sheet, c, given(first), out)
+    put_no(sheet, c, given(first), out)
 }
 
 // The reply to a question that can be asked, of a table that passed its test. Where an implication is direct no set is grown.

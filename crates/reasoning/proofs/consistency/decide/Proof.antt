@@ -2,7 +2,7 @@
 use borrow.Author.Needs.{needs}
 use Rattle.reasoning.proofs.consistency.decide.Statement.{statement}
 use Rattle.reasoning.proofs.consistency.decide.Tie as tie
-use Rattle.reasoning.proofs.Calling.{passed-counts, passed-range, passed-conflict, passed-witnessed}
+use Rattle.reasoning.proofs.Calling.{passed-counts, passed-range, passed-conflict, passed-witness}
 use native.Mathlib.Omega.{arith}
 
 sheet-of-requires : tie.Need-sheet-of-requires
@@ -30,13 +30,13 @@ returns : tie.Need-returns
 returns c = passed-conflict _ (omega (arith, c .before .before .before .before .before .before .before .before .before .before .before .before .before .before .before .before .before .before .before .before .good)) _ (c .before .before .before .before .before .before .before .before .before .before .before .before .before .before .before .before .before .before .before .before .pre) _ (c .before .before .before .before .before .before .before .before .before .before .before .before .sheet-of .ensures) _ (c .before .before .before .before .before .before .before .before .clashing .ensures) _ (c .before .before .before .before .before .before .before .before .before .before .before .with .ensures) _ (c .before .before .before .before .before .before .before .conflict .ensures) _ (c .before .before .before .before .before .before .given .ensures) _ _ _ (c .before .before .before .before .before .if1 .taken) (c .before .before .put-conflict .ensures)
 
 put-witness-requires : tie.Need-put-witness-requires
-put-witness-requires c κs = passed-witnessed _ (omega (arith, c .before .before .before .before .before .before .before .before .before .before .before .before .before .before .before .before .before .good)) _ (c .before .before .before .before .before .before .before .before .before .before .before .before .before .before .before .before .before .pre) _ (c .before .before .before .before .before .before .before .before .before .sheet-of .ensures) _ (c .before .before .before .before .before .clashing .ensures) _ (c .before .before .before .before .before .before .before .before .with .ensures) _ (c .before .before .before .before .conflict .ensures) _ (c .before .before .before .given .ensures) (c .before .before .if1 .left)
+put-witness-requires c κs = search needs
 
 same-length-2 : tie.Need-same-length-2
 same-length-2 c = search needs
 
 returns-2 : tie.Need-returns-2
-returns-2 c = search needs
+returns-2 c = passed-witness _ (omega (arith, c .before .before .before .before .before .before .before .before .before .before .before .before .before .before .before .before .before .before .before .before .good)) _ (c .before .before .before .before .before .before .before .before .before .before .before .before .before .before .before .before .before .before .before .before .pre) _ (c .before .before .before .before .before .before .before .before .before .before .before .before .sheet-of .ensures) _ (c .before .before .before .before .before .before .before .before .clashing .ensures) _ (c .before .before .before .before .before .before .before .before .before .before .before .with .ensures) _ (c .before .before .before .before .before .before .before .conflict .ensures) _ (c .before .before .before .before .before .before .given .ensures) _ _ _ (c .before .before .before .before .before .if1 .left) (c .before .before .put-witness .ensures)
 
 pub decide-spec : {M : Type 1} → statement M
 decide-spec =

@@ -15,19 +15,19 @@ with-requires-2 : tie.Need-with-requires-2
 with-requires-2 c κs = search needs
 
 returns : tie.Need-returns
-returns c = search (needs, counter-laws)
+returns c = (search (needs, counter-laws), search needs)
 
 with-requires-3 : tie.Need-with-requires-3
 with-requires-3 c κs = search needs
 
 returns-2 : tie.Need-returns-2
-returns-2 c = search (needs, counter-laws)
+returns-2 c = (search (needs, counter-laws), search needs)
 
 with-requires-4 : tie.Need-with-requires-4
 with-requires-4 c κs = search needs
 
 returns-3 : tie.Need-returns-3
-returns-3 c = ⊎-elim (λ w. search (needs, counter-laws)) (λ w. search (needs, counter-laws)) (c .before .if2 .came)
+returns-3 c = (⊎-elim (λ w. search (needs, counter-laws)) (λ w. search (needs, counter-laws)) (c .before .if2 .came), search needs)
 
 pub counter-spec : {M : Type 1} → statement M
 counter-spec =
