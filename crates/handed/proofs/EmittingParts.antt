@@ -69,7 +69,9 @@ module _ (sheet plan : List ℕ) (c : ℕ) where
       (eachOf (onePartIn sheet plan (slotOf sheet c) c) (members (getD plan c 0))) at refl out one next m two last n
 
 pub ruleset ones-laws = (ones-start, one-on, each-end, set-laws, far-laws)
+
 pub ruleset all-laws = (all-in, all-out)
+
 pub ruleset layer-laws = (left-start, each-on, each-end, set-laws, far-laws)
 
 -- ---- the parts on all paths

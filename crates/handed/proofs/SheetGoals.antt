@@ -163,9 +163,9 @@ module _ {parent : ℕ → ℕ} {rules : List Rule} {count : ℕ} (fits : Fits p
       all-is =
           gather-same (inside sheet (slotOf sheet c + 1)) (λ g. R (towards parent c top) g) 64 goals 0 small
           (λ g m.
-              let b = strictly-trans desc (towards-strictly desc under) (on g m) in
-              inside-next c g b (below g m .1)
-              ∙ ap (λ (k : ℕ). R k g) (sym (towards-unique desc (towards-strictly desc under) (towards-parent desc under) (on g m))))
+          let b = strictly-trans desc (towards-strictly desc under) (on g m) in
+          inside-next c g b (below g m .1)
+          ∙ ap (λ (k : ℕ). R k g) (sym (towards-unique desc (towards-strictly desc under) (towards-parent desc under) (on g m))))
 
       pub kids-onward : kidsIn sheet (slotOf sheet c) c goals true ≡ kidWord parent count R c goals top true
       unfolding kidsIn kidWord ownOf

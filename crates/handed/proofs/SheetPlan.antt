@@ -204,8 +204,8 @@ module _ {parent : ℕ → ℕ} {rules : List Rule} {count : ℕ} {sheet : List 
             rw (chainIn, chain, e)
             (same-sets (row aboveAt sheet top) (climbAll parent top top 0) (told .small (aboveAt + top)) (climb-small parent top top 0 (lit< tt))
             (λ a l.
-                let r = climb-iff desc top top 0 a (omega arith) (omega (arith, top-in, few)) in
-                (λ m. r .1 (inr (told .paths .above top a top-in .0 m)), λ m. told .paths .above top a top-in .1 (none (r .0 m)))))
+            let r = climb-iff desc top top 0 a (omega arith) (omega (arith, top-in, few)) in
+            (λ m. r .1 (inr (told .paths .above top a top-in .0 m)), λ m. told .paths .above top a top-in .1 (none (r .0 m)))))
         pick false e = rw (chainIn, chain, e)
 
     -- the goals of a part with the one goal g
@@ -304,8 +304,8 @@ module _ {parent : ℕ → ℕ} {rules : List Rule} {count : ℕ} {sheet : List 
               gather-same (oneIn sheet (slotOf sheet c) c) (oneKids parent count R c) 64 (getD rows c 0) s
               (row-small parent count R start desc (begins .word .small) c hc)
               (λ g m.
-                  let v = goals-of desc (told .fits .rulesIn) few words begins (row-named desc (told .fits .rulesIn) few words begins hc m) in
-                  one-is c g hc (v .below g (List·Memᴰ·head refl)) (v .small g (List·Memᴰ·head refl)))
+              let v = goals-of desc (told .fits .rulesIn) few words begins (row-named desc (told .fits .rulesIn) few words begins hc m) in
+              one-is c g hc (v .below g (List·Memᴰ·head refl)) (v .small g (List·Memᴰ·head refl)))
 
           pick : (b : Bool) → hasb whole c ≡ b → kidsHere sheet plan c (getD rows c 0) ≡ kidsAt parent count R start c (getD rows c 0)
           pick true e = rw (kidsHere, kidsAt, is .whole-is, e, allfor-is (hasb-true whole c e)) (ones (allKids parent count R start c))

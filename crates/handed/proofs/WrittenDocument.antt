@@ -29,7 +29,7 @@ use Rattle.files.proofs.SetBits.{
   common-lt,
 }
 use Rattle.files.proofs.SetMembers.{size-le, size-with, size-of-zero, size-members, mem-members, members-of-zero}
-use Rattle.documents.specs.Paths.{Below, StrictlyBelow, Descending, same, up, towards}
+use Rattle.documents.specs.Paths.{Below, StrictlyBelow, Descending, same, up, towards, depthOf}
 use Rattle.documents.specs.PartList.{Entry, partNumbers, documentNumbers}
 use Rattle.documents.specs.Parts.{further}
 use Rattle.documents.proofs.Paths.{strictly-lt, strictly-trans, towards-strictly, towards-parent, towards-below, towards-unique, below-le}
@@ -58,13 +58,15 @@ use Rattle.theory.specs.Handed.{
 }
 use Rattle.theory.proofs.HandedDocuments.{reachable-words}
 use Rattle.theory.proofs.HandedKids.{KidBy, alone}
-use Rattle.theory.proofs.HandedNamed.{goals-of, kid-may-stand, all-named, kids-of-all, kids-of-one, row-named, chain-in-table}
+use Rattle.theory.proofs.HandedNamed.{goals-of, kid-may-stand, all-named, kids-of-all, kids-of-one, row-named, top-small}
 use Rattle.theory.proofs.HandedOrder.{order-in-table, child-mem}
 use Rattle.theory.proofs.HandedRows.{Begins, onePart, allPart, row-small, one-kids-small, all-kids-small}
 use Rattle.theory.proofs.HandedWords.{has-none, gather-iff, Given}
 use Rattle.theory.proofs.Least.{passing-small}
 use Rattle.theory.proofs.Reachable.{subtree-iff}
 use Rattle.theory.proofs.Sizes.{parts-few, numbers-few}
+use Rattle.reachable.specs.Grow.{sheetOf}
+use Rattle.reachable.proofs.Sheets.{sheet-paths, sheet-sets, sheet-count, sheet-small}
 use Rattle.reachable.specs.Sheet.{row, aboveAt, belowAt, childAt, slotOf}
 use Rattle.handed.specs.Goals.{oneIn}
 use Rattle.handed.specs.Plan.{wholeIn, allFor, orderIn, planned}
@@ -217,9 +219,9 @@ module _ {parent : ℕ → ℕ} {rules : List Rule} {count : ℕ} {sheet : List 
         let h = mem-members w x small .0 m in
         total-same (λ k. bit (subtree parent count k) x) (bit (row aboveAt sheet x)) (members (childPaths parent count c))
         (λ k n.
-            let r = subtree-iff desc k count (child-in k n) few x in
-            let a = told .paths .above x k (inner x h .1) in
-            same-bit (subtree parent count k) (row aboveAt sheet x) x k (λ y. a .1 (r .0 y .1), λ y. r .1 (inner x h .1, a .0 y)))
+        let r = subtree-iff desc k count (child-in k n) few x in
+        let a = told .paths .above x k (inner x h .1) in
+        same-bit (subtree parent count k) (row aboveAt sheet x) x k (λ y. a .1 (r .0 y .1), λ y. r .1 (inner x h .1, a .0 y)))
         ∙ total-bits (row aboveAt sheet x) (childPaths parent count c)
         ∙ ap (λ (z : ℕ). size (common (row aboveAt sheet x) z)) (sym (children-are c hc))
         ∙ ap size (below-one x h)
@@ -397,7 +399,24 @@ module _ {parent : ℕ → ℕ} {rules : List Rule} {count : ℕ} {sheet : List 
       ap wrapped numbers-are
       ∙ wrapped-same (handedNumbers parent count R start) (numbers-few desc (told .fits .rulesIn) few (told .shallow) words begins)
 
-  -- what is put is the document handed back
-  pub document-handed : (out after : List ℕ) (answer : Written) → Puts (put (bytesOfAll (wrapped (documentIn sheet goals top))) out) answer after
-      → Puts (put (bytesOfAll (handedNumbers parent count (reachable parent rules count) (startOf goals top))) out) answer after
-  document-handed out after answer h = subst (λ (z : List ℕ). Puts (put (bytesOfAll z) out) answer after) wrapped-are h
+-- what is put from the sheet of a table is the document handed back
+pub document-written : {parent : ℕ → ℕ} {rules : List Rule} {count : ℕ} → Fits parent rules count → ((x : ℕ) → x < count → depthOf parent x ≤ 8)
+    → {list : List ℕ} (goals top : ℕ) → Begins parent count list (startOf goals top) → (sheet out after : List ℕ) (answer : Written)
+    → sheet ≡ sheetOf parent rules count → Puts (put (bytesOfAll (wrapped (documentIn sheet goals top))) out) answer after
+    → Puts (put (bytesOfAll (handedNumbers parent count (reachable parent rules count) (startOf goals top))) out) answer after
+document-written {parent} {rules} {count} fits shallow goals top begins sheet out after answer e h =
+    subst (λ (z : List ℕ). Puts (put (bytesOfAll z) out) answer after)
+    (ap (λ (z : List ℕ). wrapped (documentIn z goals top)) e ∙ wrapped-are told goals top begins) h
+  where
+    some : 0 < count
+    some = omega (arith, top-small begins (fits .descending) (fits .few) (reachable parent rules count))
+
+    told : Told parent rules count (sheetOf parent rules count)
+    told = record {
+      fits = fits;
+      shallow = shallow;
+      paths = sheet-paths fits some shallow;
+      sets = sheet-sets fits some shallow;
+      many = sheet-count fits some shallow;
+      small = sheet-small fits some shallow;
+    }

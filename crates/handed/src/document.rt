@@ -117,12 +117,7 @@ fn emit_layers(sheet: &[u64; WORDS], plan: &[u64; PLAN], out: &mut [u8], start: 
 }
 
 // The document: its part count, then its parts.
-fn emit_document(
-    sheet: &[u64; WORDS],
-    plan: &[u64; PLAN],
-    parts: usize,
-    out: &mut [u8],
-) -> usize
+fn emit_document(sheet: &[u64; WORDS], plan: &[u64; PLAN], parts: usize, out: &mut [u8]) -> usize
     ensures { λ r. ⌜ Emitted (parts ∷ eachOf (partsNumbers (now (sheet .entry)) (now (plan .entry))) (orderIn (now (sheet .entry)))) (now (out .entry)) 0 (now (out .exit)) r ⌝ }
 {
     let next = emit(parts, out, 0);
@@ -130,12 +125,7 @@ fn emit_document(
 }
 
 // The document's bytes put into `out`: all of them or, where they are longer than it, none (refusal 20).
-fn put_document(
-    sheet: &[u64; WORDS],
-    plan: &[u64; PLAN],
-    parts: usize,
-    out: &mut [u8],
-) -> Written
+fn put_document(sheet: &[u64; WORDS], plan: &[u64; PLAN], parts: usize, out: &mut [u8]) -> Written
     ensures { λ r. ⌜ Puts (put (bytesOfAll (wrapped (parts ∷ eachOf (partsNumbers (now (sheet .entry)) (now (plan .entry))) (orderIn (now (sheet .entry)))))) (now (out .entry))) r (now (out .exit)) ⌝ }
 {
     let mut nowhere = [0u8; 1];

@@ -20,14 +20,13 @@ use Rattle.reachable.specs.Arrays.{parentOf, ruleList}
 use Rattle.documents.specs.Judgement.{parentsOf}
 use Rattle.reasoning.specs.Calls.{askable, answerOf, AnswersQuestion}
 use Rattle.theory.specs.Decide.{clashing}
-use Rattle.handed.specs.Emit.{Writable}
 use Rattle.theory.specs.Evidence.{impliesb, yesb, evidenceNumbers}
 use Rattle.theory.specs.Handed.{handedNumbers, Start, startNo, startBoth}
 use Rattle.reachable.specs.Known.{Reaches}
 use Rattle.evidence.specs.Layers.{Stored}
 use Rattle.reasoning.specs.Lent.{PassedQuestion, Affirmed, Denied, Countered}
 use Rattle.evidence.specs.Words.{Decided}
-use Rattle.handed.specs.Writer.{wordFor, startOf}
+use Rattle.handed.specs.Writer.{startOf, documentIn}
 use Rattle.reasoning.proofs.CallLaws.{ask-refuses, ask-bars, ask-shows, ask-hands}
 use Rattle.reasoning.proofs.Calling.{taken, passed-table, valid-passed}
 use Rattle.theory.proofs.HandedQuestions.{begins-no}
@@ -35,7 +34,12 @@ use Rattle.theory.proofs.HandedRows.{Begins}
 use Rattle.reasoning.proofs.QuestionJoins.{askable-asked}
 use Rattle.reasoning.proofs.TableArrays.{arrays-parents, arrays-rules}
 use Rattle.reasoning.proofs.ValidFits.{table-fits}
-use Rattle.handed.proofs.Writable.{table-words, writable}
+use Rattle.handed.proofs.WrittenDocument.{document-written}
+use Rattle.theory.proofs.HandedDocuments.{reachable-words}
+use Rattle.theory.proofs.HandedNamed.{top-small}
+use Rattle.theory.specs.Reachable.{reachable}
+use Rattle.reachable.specs.Grow.{sheetOf}
+use Rattle.reachable.proofs.Filling.{sound-fits}
 
 -- ---- whether a question can be asked
 
@@ -93,18 +97,22 @@ module _ (t : Rules) (word : t .required < 2 ^ 64) (parent depth table : List �
             (subst (λ (l : List _). Begins (parentsOf t) (t .paths) (b .0) (startNo (parentsOf t) l (t .paths) kind p q)) (sym (arrays-rules t)) (b .1))),
       )
 
-  pub counter-writable : Writable parent depth table (t .paths) goals top
-  counter-writable =
-      writable parent (t .kind) (t .left) (t .right) (t .paths) (t .rules) depth table (h .lent .known) goals top (begins .1)
+  -- the context of the goals is in the table
+  pub counter-top : top < 64
+  counter-top =
+      let s = h .lent .known .sound .parents in
+      omega (arith, top-small (begins .1) (s .descending) (s .few) (reachable (parentOf parent) (ruleList (t .kind) (t .left) (t .right) (t .rules)) (t .paths)), s .few)
 
-  pub counter-put : (out : List ℕ) (w : Written) (r : Reply) (after : List ℕ)
-      → Puts (put (bytesOfAll (handedNumbers (parentOf parent) (t .paths) (wordFor depth table (t .paths)) (startOf goals top))) out) w after
+  pub counter-put : (sheet out : List ℕ) (w : Written) (r : Reply) (after : List ℕ)
+      → sheet ≡ sheetOf (parentOf parent) (ruleList (t .kind) (t .left) (t .right) (t .rules)) (t .paths)
+      → Puts (put (bytesOfAll (wrapped (documentIn sheet goals top))) out) w after
       → r ≡ answerOf Reply.No Reply.Refused w → AnswersQuestion t kind p q out r after
-  counter-put out w r after f g =
-      ask-hands t kind p q out word (h .lent .passes) (h .can) parent (h .lent .lent)
-      (table-words parent (t .kind) (t .left) (t .right) (t .paths) (t .rules) depth table (h .lent .known))
-      (h .denies) w r after
-      (subst (λ (s : Start). Puts (put (bytesOfAll (handedNumbers (parentOf parent) (t .paths) (wordFor depth table (t .paths)) s)) out) w after) (h .begins) f)
+  counter-put sheet out w r after e f g =
+      let fits = sound-fits (h .lent .known .sound) in
+      ask-hands t kind p q out word (h .lent .passes) (h .can) parent (h .lent .lent) (reachable-words fits) (h .denies) w r after
+      (subst (λ (s : Start). Puts (put (bytesOfAll (handedNumbers (parentOf parent) (t .paths)
+      (reachable (parentOf parent) (ruleList (t .kind) (t .left) (t .right) (t .rules)) (t .paths)) s)) out) w after) (h .begins)
+      (document-written fits (h .lent .known .sound .parents .shallow) goals top (begins .1) sheet out after w e f))
       g
 
 module _ (t : Rules) (parent depth table : List ℕ) (clash kind p q : ℕ) (h : Denied t parent depth table clash kind p q) where

@@ -19,7 +19,6 @@ use Rattle.reasoning.specs.declared.consistency.Verdict.{Verdict}
 use Rattle.reachable.specs.Arrays.{parentOf, ruleList, Parents, Sound}
 use Rattle.documents.specs.Judgement.{parentsOf}
 use Rattle.reasoning.specs.Calls.{answerOf, DecidesConsistency}
-use Rattle.handed.specs.Emit.{Writable}
 use Rattle.theory.specs.Evidence.{consistentb, inconsistentNumbers}
 use Rattle.theory.specs.Decide.{clashing}
 use Rattle.reachable.specs.Known.{Reaches, Known}
@@ -27,13 +26,17 @@ use Rattle.evidence.specs.Layers.{Stored}
 use Rattle.evidence.specs.Words.{Decided}
 use Rattle.theory.specs.Handed.{handedNumbers}
 use Rattle.reasoning.specs.Lent.{Passed, LentTable, Witnessed, Conflicting}
-use Rattle.handed.specs.Writer.{wordFor, startOf}
+use Rattle.handed.specs.Writer.{startOf, documentIn}
 use Rattle.reasoning.proofs.CallLaws.{consistency-refuses, consistency-hands, consistency-shows}
 use Rattle.reasoning.proofs.TableArrays.{arrays-sound}
 use Rattle.reasoning.proofs.ConsistencyJoins.{asked-begins}
 use Rattle.theory.proofs.HandedRows.{Begins}
 use Rattle.reasoning.proofs.TableArrays.{arrays-parents}
-use Rattle.handed.proofs.Writable.{table-words, writable}
+use Rattle.handed.proofs.WrittenDocument.{document-written}
+use Rattle.theory.proofs.HandedDocuments.{reachable-words}
+use Rattle.theory.specs.Reachable.{reachable}
+use Rattle.reachable.specs.Grow.{sheetOf}
+use Rattle.reachable.proofs.Filling.{sound-fits}
 
 module _ (t : Rules) (word : t .required < 2 ^ 64) (parent depth table : List ℕ) (asked : ℕ) (h : Witnessed t parent depth table asked) where
   valid : ValidTable t
@@ -44,20 +47,18 @@ module _ (t : Rules) (word : t .required < 2 ^ 64) (parent depth table : List �
       subst (λ (p : ℕ → ℕ). Begins p (t .paths) (0 ∷ rulesOf t .required) (startOf asked 0)) (sym (arrays-parents t valid parent (h .lent .lent)))
       (subst (λ (a : ℕ). Begins (parentsOf t) (t .paths) (0 ∷ rulesOf t .required) (startOf a 0)) (sym (h .asked-is)) (asked-begins t word valid))
 
-  pub witness-writable : Writable parent depth table (t .paths) asked 0
-  witness-writable =
-      writable parent (t .kind) (t .left) (t .right) (t .paths) (t .rules) depth table (h .lent .known) asked 0 begins
-
-  pub witness-put : (out : List ℕ) (w : Written) (r : Verdict) (after : List ℕ)
-      → Puts (put (bytesOfAll (handedNumbers (parentOf parent) (t .paths) (wordFor depth table (t .paths)) (startOf asked 0))) out) w after
+  pub witness-put : (sheet out : List ℕ) (w : Written) (r : Verdict) (after : List ℕ)
+      → sheet ≡ sheetOf (parentOf parent) (ruleList (t .kind) (t .left) (t .right) (t .rules)) (t .paths)
+      → Puts (put (bytesOfAll (wrapped (documentIn sheet asked 0))) out) w after
       → r ≡ answerOf Verdict.Consistent Verdict.Refused w → DecidesConsistency t out r after
-  witness-put out w r after p g =
-      consistency-hands t out word (h .lent .passes) parent (h .lent .lent)
-      (table-words parent (t .kind) (t .left) (t .right) (t .paths) (t .rules) depth table (h .lent .known))
+  witness-put sheet out w r after e p g =
+      let fits = sound-fits (h .lent .known .sound) in
+      consistency-hands t out word (h .lent .passes) parent (h .lent .lent) (reachable-words fits)
       (subst (λ (a : ℕ). consistentb (parentOf parent) (ruleList (t .kind) (t .left) (t .right) (t .rules)) (t .paths) a ≡ true) (h .asked-is) (h .agrees))
       w r after
-      (subst (λ (a : ℕ). Puts (put (bytesOfAll (handedNumbers (parentOf parent) (t .paths) (wordFor depth table (t .paths)) (startOf a 0))) out) w after)
-      (h .asked-is) p)
+      (subst (λ (a : ℕ). Puts (put (bytesOfAll (handedNumbers (parentOf parent) (t .paths)
+      (reachable (parentOf parent) (ruleList (t .kind) (t .left) (t .right) (t .rules)) (t .paths)) (startOf a 0))) out) w after)
+      (h .asked-is) (document-written fits (h .lent .known .sound .parents .shallow) asked 0 begins sheet out after w e p))
       g
 
 -- ---- a table that passed its test

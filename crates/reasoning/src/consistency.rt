@@ -12,6 +12,7 @@ use files::valid::valid_table;
 use files::write::Written;
 use files::write::put_numbers;
 use handed::document::write_document;
+use reachable::grow::sheet_of;
 use reachable::reach::depths;
 use reachable::reach::reach_table;
 
@@ -54,7 +55,11 @@ fn put_witness(
     requires { ⌜ Witnessed rules (now parent) (now depth) (now table) asked ⌝ }
     ensures { λ r. ⌜ DecidesConsistency rules (now (out .entry)) r (now (out .exit)) ⌝ }
 {
-    witnessed(write_document(parent, depth, table, rules.paths, asked, 0, out))
+    let kind = rules.kind;
+    let left = rules.left;
+    let right = rules.right;
+    let sheet = sheet_of(parent, &kind, &left, &right, rules.paths, rules.rules);
+    witnessed(write_document(&sheet, asked, 0, out))
 }
 
 // An inconsistent set: its evidence is put into the buffer.

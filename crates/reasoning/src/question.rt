@@ -13,6 +13,7 @@ use files::valid::valid_table;
 use files::write::Written;
 use files::write::put_numbers;
 use handed::document::write_document;
+use reachable::grow::sheet_of;
 use reachable::reach::depths;
 use reachable::reach::reach_table;
 use reachable::steps::context;
@@ -166,7 +167,11 @@ fn put_no(
     ensures { λ r. ⌜ AnswersQuestion rules k p q (now (out .entry)) r (now (out .exit)) ⌝ }
 {
     let b = counter(rules, parent, depth, table, clash, k, p, q);
-    denied(write_document(parent, depth, table, rules.paths, b.goals, b.top, out))
+    let kind = rules.kind;
+    let left = rules.left;
+    let right = rules.right;
+    let sheet = sheet_of(parent, &kind, &left, &right, rules.paths, rules.rules);
+    denied(write_document(&sheet, b.goals, b.top, out))
 }
 
 // The reply to a question that can be asked, of a table that passed its test.
