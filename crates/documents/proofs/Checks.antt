@@ -14,7 +14,7 @@ use Rattle.files.specs.TableTest.{tablePasses}
 use Rattle.documents.specs.declared.check.Checked.{Checked}
 use Rattle.documents.specs.declared.check.Checked.the-variants.{Refused}
 use Rattle.documents.specs.declared.document.Listed.{Listed}
-use Rattle.documents.specs.PartList.{Entry, entryPath, entryKids, documentFile}
+use Rattle.documents.specs.PartList.{partLimit, Entry, entryPath, entryKids, documentFile}
 use Rattle.documents.specs.Reading.{parentAt, kidsAt, entriesFrom, DocumentAnswer}
 use Rattle.documents.specs.Reading.DocumentAnswer.{read, stopped}
 use Rattle.documents.specs.Checking.{held, brokenFrom, verdict, judged, checkAnswer}
@@ -73,7 +73,7 @@ module _ (t : Rules) (s : List ℕ) (parent : List ℕ) (few : t .paths ≤ 64) 
       after : ℕ
       is : runAll (documentFile (parentAt parent) (t .paths % 256)) s ≡ got es after
       some : 1 ≤ count
-      most : count ≤ 512
+      most : count ≤ partLimit
 
     taken : Taken
     unfolding es
@@ -94,7 +94,7 @@ module _ (t : Rules) (s : List ℕ) (parent : List ℕ) (few : t .paths ≤ 64) 
     pub check-some : 1 ≤ count
     check-some = taken .some
 
-    pub check-most : count ≤ 512
+    pub check-most : count ≤ partLimit
     check-most = taken .most
 
     pub check-laid : ((i : ℕ) → getD s i 0 < 256) → Laid s path place count

@@ -16,7 +16,7 @@ use Rattle.files.specs.Number.{numberIn}
 use Rattle.files.specs.Sets.{union, withPath}
 use Rattle.files.proofs.Numbers.{place-fits}
 use Rattle.files.proofs.SetBits.{bit-union, same-bits}
-use Rattle.documents.specs.PartList.{Entry}
+use Rattle.documents.specs.PartList.{partLimit, Entry}
 use Rattle.documents.specs.Reading.{onKid, kidsFrom, kidsAt, entriesFrom}
 use Rattle.documents.specs.Checking.{heldBy, heldFrom}
 use Rattle.documents.specs.Held.{setAt, heldAmong, Laid, nextOn, Linked}
@@ -67,13 +67,13 @@ union-assoc a b c =
 
 -- ---- what children hold
 
-pub set-in : (sets : List ℕ) (k : ℕ) → k < 512 → getD sets k 0 ≡ setAt sets k
+pub set-in : (sets : List ℕ) (k : ℕ) → k < partLimit → getD sets k 0 ≡ setAt sets k
 unfolding setAt
-set-in sets k h = rw (lt-ltb k 512 h)
+set-in sets k h = rw (lt-ltb k partLimit h)
 
-pub set-past : (sets : List ℕ) (k : ℕ) → 512 ≤ k → 0 ≡ setAt sets k
+pub set-past : (sets : List ℕ) (k : ℕ) → partLimit ≤ k → 0 ≡ setAt sets k
 unfolding setAt
-set-past sets k h = rw (le-ltb k 512 h)
+set-past sets k h = rw (le-ltb k partLimit h)
 
 pub ruleset set-laws = (set-in, set-past)
 
@@ -171,7 +171,7 @@ module _ (s path place : List ℕ) (count : ℕ) where
   unfolding nextOn
   next-later c n h e = rw (from-part n h, ne-eqb (getD path n 0) c e)
 
-  pub link-start : (sets first next : List ℕ) → length sets ≡ 512 → first ≡ replicate 256 512 → length next ≡ 512
+  pub link-start : (sets first next : List ℕ) → length sets ≡ partLimit → first ≡ replicate 256 partLimit → length next ≡ partLimit
       → Linked s path place count count sets first next
   unfolding nextOn
   link-start sets first next a b c =
@@ -181,12 +181,12 @@ module _ (s path place : List ℕ) (count : ℕ) where
         first-long = ap length b;
         next-long = c;
         held = λ k h l. absurd (omega arith);
-        firsts = λ k h. ap (λ (l : List ℕ). getD l k 0) b ∙ getD-replicate 256 k 512 0 h
+        firsts = λ k h. ap (λ (l : List ℕ). getD l k 0) b ∙ getD-replicate 256 k partLimit 0 h
             ∙ ap (nextOn k count) (sym (from-end count (omega arith)));
         nexts = λ k h l. absurd (omega arith);
       }
 
-  module _ (few : count ≤ 512) (laid : Laid s path place count) (sets first next : List ℕ) where
+  module _ (few : count ≤ partLimit) (laid : Laid s path place count) (sets first next : List ℕ) where
     module _ (m : ℕ) (inv : Linked s path place count (m + 1) sets first next) (p w v : ℕ) (a : p ≡ getD path m 0)
         (b : w ≡ heldAmong sets (kidsAt s (getD place m 0))) (c : v ≡ withPath w p) where
       below : m < count
@@ -213,13 +213,13 @@ module _ (s path place : List ℕ) (count : ℕ) where
       held-now k h l (yes e) = rw e (getD-set-same sets m v 0 (omega (arith, inv .sets-long)) ∙ own)
       held-now k h l (no n) = getD-set-other sets m k v 0 n ∙ inv .held k (omega arith) l
 
-      firsts-now : (x : ℕ) → x < 256 → Dec (x ≡ p) → getD (set first p (m % 512)) x 0 ≡ nextOn x m (from m)
+      firsts-now : (x : ℕ) → x < 256 → Dec (x ≡ p) → getD (set first p (m % partLimit)) x 0 ≡ nextOn x m (from m)
       firsts-now x h (yes e) =
-          let z : m % 512 ≡ m = omega arith in
-          ap (λ (y : ℕ). getD (set first p (m % 512)) y 0) e
-          ∙ getD-set-same first p (m % 512) 0 (omega (arith, inv .first-long)) ∙ z ∙ sym (next-part x m below (sym a ∙ sym e))
+          let z : m % partLimit ≡ m = omega arith in
+          ap (λ (y : ℕ). getD (set first p (m % partLimit)) y 0) e
+          ∙ getD-set-same first p (m % partLimit) 0 (omega (arith, inv .first-long)) ∙ z ∙ sym (next-part x m below (sym a ∙ sym e))
       firsts-now x h (no n) =
-          getD-set-other first p x (m % 512) 0 n ∙ inv .firsts x h ∙ sym (next-later x m below (λ z. n (sym z ∙ sym a)))
+          getD-set-other first p x (m % partLimit) 0 n ∙ inv .firsts x h ∙ sym (next-later x m below (λ z. n (sym z ∙ sym a)))
 
       nexts-now : (k : ℕ) → m ≤ k → k < count → Dec (k ≡ m)
           → getD (set next m (getD first p 0)) k 0 ≡ nextOn (getD path k 0) (k + 1) (from (k + 1))
@@ -229,12 +229,12 @@ module _ (s path place : List ℕ) (count : ℕ) where
           ∙ inv .firsts p small ∙ ap (λ (y : ℕ). nextOn y (m + 1) (from (m + 1))) a)
       nexts-now k h l (no n) = getD-set-other next m k (getD first p 0) 0 n ∙ inv .nexts k (omega arith) l
 
-      linked : Linked s path place count m (set sets m v) (set first p (m % 512)) (set next m (getD first p 0))
+      linked : Linked s path place count m (set sets m v) (set first p (m % partLimit)) (set next m (getD first p 0))
       linked =
           record {
             within = omega arith;
             sets-long = length-set sets m v ∙ inv .sets-long;
-            first-long = length-set first p (m % 512) ∙ inv .first-long;
+            first-long = length-set first p (m % partLimit) ∙ inv .first-long;
             next-long = length-set next m (getD first p 0) ∙ inv .next-long;
             held = λ k h l. held-now k h l (ℕ-discrete k m);
             firsts = λ x h. firsts-now x h (ℕ-discrete x p);
@@ -243,7 +243,7 @@ module _ (s path place : List ℕ) (count : ℕ) where
 
     pub link-more : (n : ℕ) → Linked s path place count n sets first next → 0 < n → (p w v : ℕ) → p ≡ getD path (n - 1) 0
         → w ≡ heldAmong sets (kidsAt s (getD place (n - 1) 0)) → v ≡ withPath w p
-        → Linked s path place count (n - 1) (set sets (n - 1) v) (set first p ((n - 1) % 512)) (set next (n - 1) (getD first p 0))
+        → Linked s path place count (n - 1) (set sets (n - 1) v) (set first p ((n - 1) % partLimit)) (set next (n - 1) (getD first p 0))
     link-more n inv h p w v a b c =
         let e : n ≡ n - 1 + 1 = omega arith in
         linked (n - 1) (subst (λ (k : ℕ). Linked s path place count k sets first next) e inv) p w v a b c

@@ -19,7 +19,7 @@ use Rattle.documents.specs.declared.check.Place.the-variants.{At, Nowher
 use Rattle.documents.specs.declared.check.Break.{Break}
 use Rattle.documents.specs.declared.check.Break.the-variants.{Unbroken}
 use Rattle.documents.specs.Paths.{contextOf}
-use Rattle.documents.specs.PartList.{Entry}
+use Rattle.documents.specs.PartList.{partLimit, Entry}
 use Rattle.documents.specs.Reading.{entriesFrom}
 use Rattle.documents.specs.Checking.{heldFrom, held, breaks, breakFrom, orLater, brokenFrom, orMissing, verdict}
 use Rattle.documents.specs.Held.{Laid, nextOn, Linked, Forward, rule, firstOn, breakAlong, brokenAlong}
@@ -187,7 +187,7 @@ pub ruleset verdict-laws = (verdict-broken, verdict-missing)
 
 -- ---- along the parts is among all parts
 
-module _ (s path place : List ℕ) (count : ℕ) (few : count ≤ 512) where
+module _ (s path place : List ℕ) (count : ℕ) (few : count ≤ partLimit) where
   -- the parts from number n on
   rest : ℕ → List Entry
   rest n = from s path place count n
@@ -217,7 +217,7 @@ module _ (s path place : List ℕ) (count : ℕ) (few : count ≤ 512) where
       by false f g again = again g
 
   -- no part is on a path past those that the parts are on
-  next-none : (c k n : ℕ) → n + k ≡ count → ((i : ℕ) → i < count → getD path i 0 ≡ c → ⊥) → nextOn c n (entriesFrom s path place n k) ≡ 512
+  next-none : (c k n : ℕ) → n + k ≡ count → ((i : ℕ) → i < count → getD path i 0 ≡ c → ⊥) → nextOn c n (entriesFrom s path place n k) ≡ partLimit
   unfolding entriesFrom nextOn
   next-none c zero n e h = refl
   next-none c (suc k) n e h = rw (ne-eqb (getD path n 0) c (h n (omega arith))) (next-none c k (n + 1) (omega arith) h)
@@ -242,7 +242,7 @@ module _ (s path place : List ℕ) (count : ℕ) (few : count ≤ 512) where
     -- the parts on other paths are passed over
     among-skip : (k n : ℕ) → n + k ≡ count → among n ≡ among (nextOn c n (entriesFrom s path place n k))
     unfolding entriesFrom nextOn
-    among-skip zero n e = among-end n (omega arith) ∙ sym (among-end 512 few)
+    among-skip zero n e = among-end n (omega arith) ∙ sym (among-end partLimit few)
     among-skip (suc k) n e = by (eqb (getD path n 0) c) refl (among-skip k (n + 1) (omega arith))
       where
         by : (t : Bool) → eqb (getD path n 0) c ≡ t → among (n + 1) ≡ among (nextOn c (n + 1) (entriesFrom s path place (n + 1) k))
@@ -295,7 +295,7 @@ module _ (s path place : List ℕ) (count : ℕ) (few : count ≤ 512) where
           whole : count - 0 ≡ count
           whole = omega arith
 
-          by : Dec (c < 256) → cond (ltb c 256) (getD first c 0) 512 ≡ nextOn c 0 (entriesFrom s path place 0 count)
+          by : Dec (c < 256) → cond (ltb c 256) (getD first c 0) partLimit ≡ nextOn c 0 (entriesFrom s path place 0 count)
           by (yes h) = rw (lt-ltb c 256 h) (linked .firsts c h ∙ ap (λ (k : ℕ). nextOn c 0 (entriesFrom s path place 0 k)) whole)
           by (no h) = rw (le-ltb c 256 (omega arith)) (sym (next-none c count 0 (omega arith) (λ i l e. omega (arith, laid .small i l))))
 

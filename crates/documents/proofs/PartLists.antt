@@ -1,5 +1,5 @@
 -- Laws of the part-list reader's loop over the parts, and of a document to the end of its bytes.
-use Prim.Native.Nat.{ℕ, zero, suc, _+_, _-_, _%_, _<_, _≤_}
+use Prim.Native.Nat.{ℕ, _*_, zero, suc, _+_, _-_, _%_, _<_, _≤_}
 use mathlib.Core.Path.{_≡_, refl, sym, ap, ap₂, subst, _∙_}
 use mathlib.Core.Bool.{Bool, true, false, cond}
 use mathlib.Core.List.{List, [], _∷_, _++_}
@@ -22,7 +22,7 @@ use Rattle.files.proofs.ReaderRules.{run-refused, run-taken, between-taken, add
 use Rattle.documents.specs.declared.document.Section.{Section}
 use Rattle.documents.specs.declared.document.OnePart.{OnePart}
 use Rattle.documents.specs.declared.document.Listed.{Listed}
-use Rattle.documents.specs.PartList.{Entry, listed, namers, partAt, onePart, moreParts, documentFile}
+use Rattle.documents.specs.PartList.{partLimit, Entry, listed, namers, partAt, onePart, moreParts, documentFile}
 use Rattle.documents.specs.Reading.{kidsAt, entriesFrom, Marked, PartAnswer, PartsAnswer, listedAnswer, DocumentAnswer}
 use Rattle.documents.specs.Reading.PartAnswer.{read as part-read, stopped as part-stopped}
 use Rattle.documents.specs.Reading.PartsAnswer.{read as parts-read, stopped as parts-stopped}
@@ -60,7 +60,7 @@ entries-store s path place n (suc k) i p q h =
     (entries-store s path place (n + 1) k i p q (omega arith))
 
 -- part n stored is one part more
-entries-more : (s path place : List ℕ) (n p q : ℕ) → length path ≡ 512 → length place ≡ 512 → n < 512
+entries-more : (s path place : List ℕ) (n p q : ℕ) → length path ≡ partLimit → length place ≡ partLimit → n < partLimit
     → entriesFrom s (set path n p) (set place n q) 0 (n + 1) ≡ entriesFrom s path place 0 n ++ (record { path = p; kids = kidsAt s q } ∷ [])
 entries-more s path place n p q a b h =
     let e : n + 1 ≡ suc n = omega arith in
@@ -106,15 +106,15 @@ set-more m es p ks = ap (addAll 0) (namers-snoc m es (record { path = p; kids = 
 -- the parts so far are in the arrays, with the sets of their namers' paths, and reading goes on at `next`
 pub record PartsSoFar (s : List ℕ) (parent : ℕ → ℕ) (count size at : ℕ) (path place sets : List ℕ) (next n : ℕ) : Type 0 where
   pub most : n ≤ size
-  pub path-long : length path ≡ 512
-  pub place-long : length place ≡ 512
-  pub sets-long : length sets ≡ 512
+  pub path-long : length path ≡ partLimit
+  pub place-long : length place ≡ partLimit
+  pub sets-long : length sets ≡ partLimit
   pub named : (m : ℕ) → n ≤ m → m < size → getD sets m 0 ≡ addAll 0 (namers m (entriesFrom s path place 0 n))
   pub rest : run (moreParts parent count size (size - n) (entriesFrom s path place 0 n)) next (drop next s)
       ≡ run (moreParts parent count size size []) at (drop at s)
 
-pub parts-start : (s : List ℕ) (parent : ℕ → ℕ) (count size at : ℕ) (path place : List ℕ) → length path ≡ 512 → length place ≡ 512
-    → PartsSoFar s parent count size at path place (replicate 512 0) at 0
+pub parts-start : (s : List ℕ) (parent : ℕ → ℕ) (count size at : ℕ) (path place : List ℕ) → length path ≡ partLimit → length place ≡ partLimit
+    → PartsSoFar s parent count size at path place (replicate partLimit 0) at 0
 unfolding entriesFrom namers addAll
 parts-start s parent count size at path place a b =
     record {
@@ -122,7 +122,7 @@ parts-start s parent count size at path place a b =
       path-long = a;
       place-long = b;
       sets-long = refl;
-      named = λ m h l. zeros-get 512 m;
+      named = λ m h l. zeros-get partLimit m;
       rest = let e : size - 0 ≡ size = omega arith in ap (λ (k : ℕ). run (moreParts parent count size k []) at (drop at s)) e;
     }
 
@@ -146,10 +146,10 @@ module _ (s : List ℕ) (parent : ℕ → ℕ) (count size at : ℕ) (path place
       ∙ run-then (onePart parent count size (entriesFrom s path place 0 n)) go s next
       ∙ ap₂ (λ (m w : ℕ). onward go s (run (partAt parent count size m w) next (drop next s))) many set
 
-  module _ (more : n < size) (fits : size ≤ 512) (l : List ℕ) (r : OnePart)
-      (a : PartAnswer s sets l (run (partAt parent count (size % 1024) n (getD sets n 0)) next (drop next s)) r) where
+  module _ (more : n < size) (fits : size ≤ partLimit) (l : List ℕ) (r : OnePart)
+      (a : PartAnswer s sets l (run (partAt parent count (size % (2 * partLimit)) n (getD sets n 0)) next (drop next s)) r) where
     answer : PartAnswer s sets l (run (partAt parent count size n (getD sets n 0)) next (drop next s)) r
-    answer = let e : size % 1024 ≡ size = omega arith in rw e at a
+    answer = let e : size % (2 * partLimit) ≡ size = omega arith in rw e at a
 
     pub parts-refused : {k place′ : ℕ} → r ≡ OnePart.Refused k place′
         → PartsAnswer s path place (run (moreParts parent count size size []) at (drop at s)) (Section.Refused k place′)
@@ -171,7 +171,7 @@ module _ (s : List ℕ) (parent : ℕ → ℕ) (count size at : ℕ) (path place
     unfolding onward go es
     parts-more {p} {kids} {after} f = by answer f refl
       where
-        room : n < 512
+        room : n < partLimit
         room = omega arith
 
         new : entriesFrom s (set path n p) (set place n kids) 0 (n + 1)
@@ -240,19 +240,19 @@ parts-many parent count size s many at es next e =
     list-many (onePart parent count size) (moreParts parent count size) (λ l. refl) (λ k l. refl) s many [] at es next e ∙ omega arith
 
 module _ (s : List ℕ) (parent : ℕ → ℕ) (count : ℕ) (path place : List ℕ) (r : Number)
-    (e : r ≡ tested (between 1 513 15) (numberIn (drop 0 s))) where
+    (e : r ≡ tested (between 1 (partLimit + 1) 15) (numberIn (drop 0 s))) where
   parts : ℕ → Format (List Entry)
   parts size = moreParts parent count size size []
 
   pub document-bad : {k : ℕ} → r ≡ Refused k → DocumentAnswer s path place (runAll (documentFile parent count) s) (Listed.Refused k 0)
   unfolding runAll atEnd documentFile parts
   document-bad {k} f =
-      let o : run (want (between 1 513 15) parts) 0 (drop 0 s) ≡ refused k 0 = run-refused (between 1 513 15) parts s 0 r e f in
+      let o : run (want (between 1 (partLimit + 1) 15) parts) 0 (drop 0 s) ≡ refused k 0 = run-refused (between 1 (partLimit + 1) 15) parts s 0 r e f in
       rw o document-stopped
 
-  pub document-few : {size width : ℕ} (many : ℕ) → r ≡ Is size width → many ≡ size → many ≤ 512
+  pub document-few : {size width : ℕ} (many : ℕ) → r ≡ Is size width → many ≡ size → many ≤ partLimit
   document-few {size} {width} many f g =
-      let b : (1 ≤ size) × (size < 513) = between-taken 1 513 15 s 0 size width r (omega arith) e f in
+      let b : (1 ≤ size) × (size < partLimit + 1) = between-taken 1 (partLimit + 1) 15 s 0 size width r (omega arith) e f in
       omega arith
 
   pub document-is : {size width : ℕ} (many : ℕ) (end : Section) (q : Listed) → r ≡ Is size width → many ≡ size
@@ -260,13 +260,13 @@ module _ (s : List ℕ) (parent : ℕ → ℕ) (count : ℕ) (path place : List 
       → q ≡ listedAnswer (length s) many end → DocumentAnswer s path place (runAll (documentFile parent count) s) q
   unfolding runAll atEnd documentFile parts listedAnswer
   document-is {size} {width} many end q f g a h =
-      let b : (1 ≤ size) × (size < 513) = between-taken 1 513 15 s 0 size width r (omega arith) e f in
+      let b : (1 ≤ size) × (size < partLimit + 1) = between-taken 1 (partLimit + 1) 15 s 0 size width r (omega arith) e f in
       let z : 0 + width ≡ width = omega arith in
-      let o : run (want (between 1 513 15) parts) 0 (drop 0 s) ≡ run (parts many) width (drop width s) =
-      run-taken (between 1 513 15) parts s 0 r e f ∙ ap₂ (λ (k m : ℕ). run (parts m) k (drop k s)) z (sym g) in
+      let o : run (want (between 1 (partLimit + 1) 15) parts) 0 (drop 0 s) ≡ run (parts many) width (drop width s) =
+      run-taken (between 1 (partLimit + 1) 15) parts s 0 r e f ∙ ap₂ (λ (k m : ℕ). run (parts m) k (drop k s)) z (sym g) in
       rw (h, o) (by a refl (omega arith) (omega arith))
     where
-      ends : {es : List Entry} (next : ℕ) → entriesFrom s path place 0 many ≡ es → 1 ≤ many → many ≤ 512 → (t : Bool)
+      ends : {es : List Entry} (next : ℕ) → entriesFrom s path place 0 many ≡ es → 1 ≤ many → many ≤ partLimit → (t : Bool)
           → ltb next (length s) ≡ t
           → DocumentAnswer s path place (cond t (refused 11 next) (got es next)) (cond t (Listed.Refused 11 next) (Listed.Parts many))
       ends next k some few true u = document-stopped
@@ -274,7 +274,7 @@ module _ (s : List ℕ) (parent : ℕ → ℕ) (count : ℕ) (path place : List 
 
       by : {o : Outcome (List Entry)} {w : Section} → PartsAnswer s path place o w
           → run (moreParts parent count many many []) width (drop width s) ≡ o
-          → 1 ≤ many → many ≤ 512 → DocumentAnswer s path place (atEnd (length s) o) (listedAnswer (length s) many w)
+          → 1 ≤ many → many ≤ partLimit → DocumentAnswer s path place (atEnd (length s) o) (listedAnswer (length s) many w)
       by (parts-read {es} {next} k) o some few =
           let m : length es ≡ many = parts-many parent count many s many width es next o in
           ends next (ap (entriesFrom s path place 0) (sym m) ∙ k) some few (ltb next (length s)) refl

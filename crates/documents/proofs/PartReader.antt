@@ -24,7 +24,7 @@ use Rattle.files.proofs.ReaderRules.{run-refused, run-taken, tested-taken, test
 use Rattle.files.proofs.SetBits.{bit-of-zero, with-new, with-past, with-old, has-with}
 use Rattle.documents.specs.declared.document.Section.{Section}
 use Rattle.documents.specs.declared.document.OnePart.{OnePart}
-use Rattle.documents.specs.PartList.{Entry, listed, namedTest, pathTest, kidsOn, partAt}
+use Rattle.documents.specs.PartList.{partLimit, Entry, listed, namedTest, pathTest, kidsOn, partAt}
 use Rattle.documents.specs.Reading.{onKid, kidsFrom, kidsAt, Marked, KidsAnswer, partOf, PartAnswer}
 use Rattle.documents.specs.Reading.KidsAnswer.{read as kids-read, stopped as kids-stopped}
 use Rattle.documents.specs.Reading.PartAnswer.{read as part-read, stopped as part-stopped}
@@ -108,7 +108,7 @@ path-small parent count n set p few e = by (ℕ-discrete n 0) (ℕ-discrete p 0)
 -- a child that was read is below the part count
 pub kid-small : (low size k : ℕ) (s : List ℕ) (next : ℕ) (r : Number) {x width : ℕ} (i : ℕ)
     → r ≡ tested (between low size k) (numberIn (drop next s))
-    → 0 < k → r ≡ Is x width → i ≡ x → size ≤ 512 → i < 512
+    → 0 < k → r ≡ Is x width → i ≡ x → size ≤ partLimit → i < partLimit
 kid-small low size k s next r {x} {width} i e some f g few =
     let b : (low ≤ x) × (x < size) = between-taken low size k s next x width r some e f in
     omega arith
@@ -139,7 +139,7 @@ mark-none : (p : ℕ) (l : List ℕ) → Marked p [] l l
 unfolding listed
 mark-none p l = record { same = refl; each = λ m h. refl }
 
-mark-more : (p : ℕ) (ks before after : List ℕ) (x : ℕ) → Marked p ks before after → length after ≡ 512 → x < 512
+mark-more : (p : ℕ) (ks before after : List ℕ) (x : ℕ) → Marked p ks before after → length after ≡ partLimit → x < partLimit
     → Marked p (ks ++ (x ∷ [])) before (set after x (withPath (getD after x 0) p))
 mark-more p ks before after x inv long h =
     record {
@@ -165,7 +165,7 @@ mark-more p ks before after x inv long h =
     keeps true a b = refl
     keeps false a b = refl
 
-    by : (m : ℕ) → m < 512 → Dec (m ≡ x) → Goal m (eqb x m)
+    by : (m : ℕ) → m < partLimit → Dec (m ≡ x) → Goal m (eqb x m)
     by m l (yes e) =
         subst (Goal m) (sym (eq-eqb x m (sym e)))
         (ap (λ (k : ℕ). getD (set after x (withPath (getD after x 0) p)) k 0) e
@@ -185,11 +185,11 @@ pub record KidsSoFar (s : List ℕ) (at size n p many : ℕ) (before after : Lis
   pub ks : List ℕ
   pub kids : ks ++ kidsFrom s next left ≡ kidsFrom s at many
   pub marked : Marked p ks before after
-  pub long : length after ≡ 512
-  pub small : last < 512
+  pub long : length after ≡ partLimit
+  pub small : last < partLimit
   pub rest : run (moreAscending 19 size left last ks) next (drop next s) ≡ run (moreAscending 19 size many n []) at (drop at s)
 
-pub kids-start : (s : List ℕ) (at size n p many : ℕ) (l : List ℕ) → length l ≡ 512 → n < 512 → KidsSoFar s at size n p many l l n at many
+pub kids-start : (s : List ℕ) (at size n p many : ℕ) (l : List ℕ) → length l ≡ partLimit → n < partLimit → KidsSoFar s at size n p many l l n at many
 kids-start s at size n p many l long h = record { ks = []; kids = refl; marked = mark-none p l; long = long; small = h; rest = refl }
 
 -- a number that stands where a child is wanted
@@ -216,7 +216,7 @@ module _ (s : List ℕ) (at size n p many : ℕ) (before after : List ℕ) (last
         ∙ run-refused (between (last + 1) size 19) (λ x. moreAscending 19 size (left - 1) x (inv .ks ++ (x ∷ []))) s next r e f in
         rw o kids-stopped
 
-    pub kids-more : {x width : ℕ} (i : ℕ) (l : List ℕ) → r ≡ Is x width → size ≤ 512 → i ≡ x
+    pub kids-more : {x width : ℕ} (i : ℕ) (l : List ℕ) → r ≡ Is x width → size ≤ partLimit → i ≡ x
         → l ≡ set after i (withPath (getD after i 0) p) → KidsSoFar s at size n p many before l x (next + width) (left - 1)
     kids-more {x} {width} i l f few g j =
         let t : (numberIn (drop next s) ≡ Is x width) × (between (last + 1) size 19 x ≡ 0) =
@@ -299,15 +299,15 @@ module _ (s : List ℕ) (at : ℕ) (parent : ℕ → ℕ) (count size n set : �
       run-refused {A = Entry} (pathTest parent count n set) (λ p. kidsOn size n p) s at r e f in
       rw o part-stopped
 
-  pub part-is : {p width : ℕ} (q : OnePart) → r ≡ Is p width → count ≤ 64 → n < 512
-      → PartAnswer s before after (run (kidsOn size (n % 512) (p % 256)) (at + width) (drop (at + width) s)) q
+  pub part-is : {p width : ℕ} (q : OnePart) → r ≡ Is p width → count ≤ 64 → n < partLimit
+      → PartAnswer s before after (run (kidsOn size (n % partLimit) (p % 256)) (at + width) (drop (at + width) s)) q
       → PartAnswer s before after (run (partAt parent count size n set) at (drop at s)) q
   unfolding partAt
   part-is {p} {width} q f few below a =
       let t : (numberIn (drop at s) ≡ Is p width) × (pathTest parent count n set p ≡ 0) =
       tested-taken (pathTest parent count n set) (numberIn (drop at s)) p width (sym f ∙ e) in
       let small : p % 256 ≡ p = omega (arith, path-small parent count n set p few (t .1)) in
-      let own : n % 512 ≡ n = omega arith in
+      let own : n % partLimit ≡ n = omega arith in
       let o : run (partAt parent count size n set) at (drop at s) ≡ run (kidsOn size n p) (at + width) (drop (at + width) s) =
       run-taken {A = Entry} (pathTest parent count n set) (λ p. kidsOn size n p) s at r e f in
       rw o (rw (small, own) at a)

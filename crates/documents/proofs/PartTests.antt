@@ -14,14 +14,14 @@ use Rattle.files.specs.Sets.{Has, withPath}
 use Rattle.files.specs.RuleFile.{between}
 use Rattle.files.proofs.Rows.{Row, row-between}
 use Rattle.files.proofs.SetBits.{bit-of-zero, bit-pow-same, bit-pow-other, not-has, with-old, has-with}
-use Rattle.documents.specs.PartList.{Entry, listed, namers, entryPath, entryKids, Namer, namedTest, pathTest}
+use Rattle.documents.specs.PartList.{partLimit, Entry, listed, namers, entryPath, entryKids, Namer, namedTest, pathTest}
 use Rattle.documents.proofs.PartReader.{with-zero, named-none, named-root, named-good, named-else, path-zero, path-root, path-far}
 
 -- 15: part count 0 or above 512
-pub row-15 : (n : ℕ) → Row 15 (between 1 513 15 n) ((n ≡ 0) ⊎ (512 < n))
+pub row-15 : (n : ℕ) → Row 15 (between 1 (partLimit + 1) 15 n) ((n ≡ 0) ⊎ (partLimit < n))
 row-15 n =
-    row-between 1 513 15 n ((n ≡ 0) ⊎ (512 < n)) (omega arith) (λ h. inl (omega arith)) (λ h. inr (omega arith))
-    (λ h l. ⊎-elim (λ (e : n ≡ 0). omega arith) (λ (m : 512 < n). omega arith))
+    row-between 1 (partLimit + 1) 15 n ((n ≡ 0) ⊎ (partLimit < n)) (omega arith) (λ h. inl (omega arith)) (λ h. inr (omega arith))
+    (λ h l. ⊎-elim (λ (e : n ≡ 0). omega arith) (λ (m : partLimit < n). omega arith))
 
 -- 19: child number not above its parent part's or the previous child's, which is `last`, or not below the part count
 pub row-19 : (last size x : ℕ) → Row 19 (between (last + 1) size 19 x) ((x ≤ last) ⊎ (size ≤ x))

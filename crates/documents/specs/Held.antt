@@ -12,18 +12,18 @@ use Rattle.documents.specs.declared.check.Place.the-variants.{At, Nowher
 use Rattle.documents.specs.declared.check.Break.{Break}
 use Rattle.documents.specs.declared.check.Break.the-variants.{Unbroken}
 use Rattle.documents.specs.Paths.{contextOf}
-use Rattle.documents.specs.PartList.{Entry}
+use Rattle.documents.specs.PartList.{partLimit, Entry}
 use Rattle.documents.specs.Reading.{kidsAt, entriesFrom}
 use Rattle.documents.specs.Checking.{heldFrom, breaks, orLater}
 
 -- the least part from number n on that is on path c; 512 where there is none
 unfoldable pub nextOn : ℕ → ℕ → List Entry → ℕ
-nextOn c n [] = 512
+nextOn c n [] = partLimit
 nextOn c n (e ∷ es) = cond (eqb (e .path) c) n (nextOn c (n + 1) es)
 
 -- the set of part k as an array of 512 has it; none past it
 unfoldable pub setAt : List ℕ → ℕ → ℕ
-setAt sets k = cond (ltb k 512) (getD sets k 0) 0
+setAt sets k = cond (ltb k partLimit) (getD sets k 0) 0
 
 -- all that the parts of a list of numbers hold, as the array has their sets
 unfoldable pub heldAmong : List ℕ → List ℕ → ℕ
@@ -38,9 +38,9 @@ pub record Laid (s path place : List ℕ) (parts : ℕ) : Type 0 where
 -- the arrays have, of the parts from number n on, what each holds, the least on each path and the next on its path
 pub record Linked (s path place : List ℕ) (parts n : ℕ) (sets first next : List ℕ) : Type 0 where
   pub within : n ≤ parts
-  pub sets-long : length sets ≡ 512
+  pub sets-long : length sets ≡ partLimit
   pub first-long : length first ≡ 256
-  pub next-long : length next ≡ 512
+  pub next-long : length next ≡ partLimit
   pub held : (k : ℕ) → n ≤ k → k < parts → getD sets k 0 ≡ getD (heldFrom k (entriesFrom s path place k (parts - k))) 0 0
   pub firsts : (c : ℕ) → c < 256 → getD first c 0 ≡ nextOn c n (entriesFrom s path place n (parts - n))
   pub nexts : (k : ℕ) → n ≤ k → k < parts
@@ -62,7 +62,7 @@ breakAlong ru sets next parts (suc fuel) n =
 
 -- the least part on path c, as the array has it; 512 where there is none
 unfoldable pub firstOn : List ℕ → ℕ → ℕ
-firstOn first c = cond (ltb c 256) (getD first c 0) 512
+firstOn first c = cond (ltb c 256) (getD first c 0) partLimit
 
 -- the least broken rule from number r on, and the first part on its context that breaks it
 unfoldable pub brokenAlong : (parent : ℕ → ℕ) (parts : ℕ) (sets first next : List ℕ) → ℕ → List Rule → Break

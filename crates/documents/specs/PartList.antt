@@ -12,6 +12,10 @@ use Rattle.files.specs.Sets.{Ascending}
 use Rattle.documents.specs.Tree.{Forest}
 use Rattle.documents.specs.Parts.{Unfolds}
 
+-- how many parts a document may have
+abbrev pub partLimit : ℕ
+partLimit = 512
+
 -- a part as it is laid down: its path and the parts that it names
 pub record Entry : Type 0 where
   pub path : ℕ
@@ -54,9 +58,9 @@ unfoldable pub moreParts : (parent : ℕ → ℕ) (count parts : ℕ) → ℕ �
 moreParts parent count parts zero es = done es
 moreParts parent count parts (suc k) es = andThen (onePart parent count parts es) (λ e. moreParts parent count parts k (es ++ (e ∷ [])))
 
--- a document of a table of `count` paths: the part count first, 1 to 512
+-- a document of a table of `count` paths: the part count first, 1 to the limit
 unfoldable pub documentFile : (parent : ℕ → ℕ) (count : ℕ) → Format (List Entry)
-documentFile parent count = want (between 1 513 15) (λ parts. moreParts parent count parts parts [])
+documentFile parent count = want (between 1 (partLimit + 1) 15) (λ parts. moreParts parent count parts parts [])
 
 -- the path of a part, by its number
 unfoldable pub entryPath : List Entry → ℕ → ℕ
@@ -88,9 +92,9 @@ pub record NamedEarlier (es : List Entry) (k : ℕ) : Type 0 where
 
 -- a part list that breaks no condition of 01, in a table of `count` paths
 pub record ValidParts (parent : ℕ → ℕ) (count : ℕ) (es : List Entry) : Type 0 where
-  -- 1 to 512 parts
+  -- 1 to the limit parts
   pub some : 1 ≤ length es
-  pub most : length es ≤ 512
+  pub most : length es ≤ partLimit
   -- part 0 is on path 0, every part on a path of the table
   pub root : entryPath es 0 ≡ 0
   pub inside : (n : ℕ) → n < length es → entryPath es n < count

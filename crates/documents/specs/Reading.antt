@@ -13,7 +13,7 @@ use Rattle.files.specs.Sets.{withPath}
 use Rattle.documents.specs.declared.document.Section.{Section}
 use Rattle.documents.specs.declared.document.OnePart.{OnePart}
 use Rattle.documents.specs.declared.document.Listed.{Listed}
-use Rattle.documents.specs.PartList.{Entry, listed}
+use Rattle.documents.specs.PartList.{partLimit, Entry, listed}
 
 -- the parent of a path as an array of 64 has it; 0 past it
 unfoldable pub parentAt : List ℕ → ℕ → ℕ
@@ -42,7 +42,7 @@ entriesFrom s path place n (suc k) =
 -- the parts ks, and no others, get path p among their namers' paths
 pub record Marked (p : ℕ) (ks before after : List ℕ) : Type 0 where
   pub same : length after ≡ length before
-  pub each : (m : ℕ) → m < 512 → getD after m 0 ≡ cond (listed m ks) (withPath (getD before m 0) p) (getD before m 0)
+  pub each : (m : ℕ) → m < partLimit → getD after m 0 ≡ cond (listed m ks) (withPath (getD before m 0) p) (getD before m 0)
 
 -- so many children of a part on path p were read at `at`, and marked; or the refusal
 pub data KidsAnswer (s : List ℕ) (at many p : ℕ) (before after : List ℕ) : Outcome (List ℕ) → Section → Type 0 where
@@ -74,6 +74,6 @@ listedAnswer bytes parts (Section.Refused k at) = Listed.Refused k at
 
 -- a document was read, whose parts the arrays have; or the refusal
 pub data DocumentAnswer (s path place : List ℕ) : Outcome (List Entry) → Listed → Type 0 where
-  read : {es : List Entry} {next parts : ℕ} → entriesFrom s path place 0 parts ≡ es → 1 ≤ parts → parts ≤ 512
+  read : {es : List Entry} {next parts : ℕ} → entriesFrom s path place 0 parts ≡ es → 1 ≤ parts → parts ≤ partLimit
       → DocumentAnswer s path place (got es next) (Listed.Parts parts)
   stopped : {k at : ℕ} → DocumentAnswer s path place (refused k at) (Listed.Refused k at)

@@ -6,12 +6,13 @@ ghost use Rattle.files.specs.Format.{runAll};
 ghost use Rattle.files.specs.Rules.{rulesOf, rulesFrom};
 ghost use Rattle.files.specs.Table.{parentIn};
 ghost use Rattle.documents.specs.Paths.{contextOf};
-ghost use Rattle.documents.specs.PartList.{documentFile};
+ghost use Rattle.documents.specs.PartList.{partLimit, documentFile};
 ghost use Rattle.documents.specs.Checking.{breaks, brokenFrom, held, orMissing, verdict, judged, CheckDocument};
 ghost use Rattle.documents.specs.Reading.{parentAt, entriesFrom};
 ghost use Rattle.documents.specs.Held.{Laid, Forward, rule, firstOn, breakAlong, brokenAlong};
 use crate::context::context;
 use crate::document::Listed;
+use crate::document::PARTS;
 use crate::document::read_document;
 use crate::held::hold_all;
 use files::number::wide;
@@ -21,6 +22,9 @@ use files::sets::difference;
 use files::sets::has;
 use files::sets::lowest;
 use files::valid::valid_table;
+
+// Past every part.
+const NO_PART: u16 = 512;
 
 // Whether a document obeys: the least broken rule and the least part that breaks it, the least required path missing, or the
 // refusal's number and offset.
@@ -77,10 +81,10 @@ fn broken_part(
     right: u8,
     start: usize,
     parts: usize,
-    sets: &[u64; 512],
-    next: &[u16; 512],
+    sets: &[u64; PARTS],
+    next: &[u16; PARTS],
 ) -> Place
-    requires { ⌜ (parts ≤ 512) × Forward parts (now next) ⌝ }
+    requires { ⌜ (parts ≤ partLimit) × Forward parts (now next) ⌝ }
     ensures { λ r. ⌜ r ≡ breakAlong (rule kind left right) (now (sets .entry)) (now (next .entry)) parts parts start ⌝ }
 {
     let mut n = start;
@@ -100,11 +104,11 @@ fn rule_broken(
     right: u8,
     parent: &[u8; 64],
     parts: usize,
-    sets: &[u64; 512],
+    sets: &[u64; PARTS],
     first: &[u16; 256],
-    next: &[u16; 512],
+    next: &[u16; PARTS],
 ) -> Place
-    requires { ⌜ (parts ≤ 512) × Forward parts (now next) ⌝ }
+    requires { ⌜ (parts ≤ partLimit) × Forward parts (now next) ⌝ }
     ensures { λ r. ⌜ r ≡ breakAlong (rule kind left right) (now (sets .entry)) (now (next .entry)) parts parts
         (firstOn (now (first .entry)) (contextOf (parentAt (now (parent .entry))) left right)) ⌝ }
 {
@@ -120,11 +124,11 @@ fn broken_rule(
     many: usize,
     parent: &[u8; 64],
     parts: usize,
-    sets: &[u64; 512],
+    sets: &[u64; PARTS],
     first: &[u16; 256],
-    next: &[u16; 512],
+    next: &[u16; PARTS],
 ) -> Break
-    requires { ⌜ (many ≤ 256) × (parts ≤ 512) × Forward parts (now next) ⌝ }
+    requires { ⌜ (many ≤ 256) × (parts ≤ partLimit) × Forward parts (now next) ⌝ }
     ensures { λ r. ⌜ r ≡ brokenAlong (parentAt (now (parent .entry))) parts (now (sets .entry)) (now (first .entry)) (now (next .entry)) 0
         (rulesFrom (now (kind .entry)) (now (left .entry)) (now (right .entry)) 0 many) ⌝ }
 {
@@ -169,19 +173,19 @@ fn judge(
     parent: &[u8; 64],
     s: &[u8],
     parts: usize,
-    path: &[u8; 512],
-    place: &[usize; 512],
+    path: &[u8; PARTS],
+    place: &[usize; PARTS],
 ) -> Checked
-    requires { ⌜ (rules .rules ≤ 256) × (1 ≤ parts) × (parts ≤ 512) × Laid (now s) (now path) (now place) parts ⌝ }
+    requires { ⌜ (rules .rules ≤ 256) × (1 ≤ parts) × (parts ≤ partLimit) × Laid (now s) (now path) (now place) parts ⌝ }
     ensures { λ r. ⌜ r ≡ verdict (rules .required)
         (getD (held (entriesFrom (now (s .entry)) (now (path .entry)) (now (place .entry)) 0 parts)) 0 0)
         (brokenFrom (parentAt (now (parent .entry))) 0 (rulesOf rules .rules)
         (entriesFrom (now (s .entry)) (now (path .entry)) (now (place .entry)) 0 parts)
         (held (entriesFrom (now (s .entry)) (now (path .entry)) (now (place .entry)) 0 parts))) ⌝ }
 {
-    let mut sets = [0u64; 512];
-    let mut first = [512u16; 256];
-    let mut next = [512u16; 512];
+    let mut sets = [0u64; PARTS];
+    let mut first = [NO_PART; 256];
+    let mut next = [NO_PART; PARTS];
     hold_all(s, parts, path, place, &mut sets, &mut first, &mut next);
     let kind = rules.kind;
     let left = rules.left;
@@ -208,8 +212,8 @@ fn check_parts(rules: Rules, document: &[u8]) -> Checked
 {
     let given = rules.parent;
     let parent = parents(&given, rules.paths);
-    let mut path = [0u8; 512];
-    let mut place = [0usize; 512];
+    let mut path = [0u8; PARTS];
+    let mut place = [0usize; PARTS];
     match read_document(
         document,
         &parent,

@@ -8,7 +8,7 @@ ghost use Rattle.files.specs.Sets.{withPath};
 ghost use Rattle.files.specs.Number.{numberIn};
 ghost use Rattle.files.specs.Format.{run, runAll};
 ghost use Rattle.files.specs.Reading.{tested};
-ghost use Rattle.documents.specs.PartList.{namedTest, pathTest, kidsOn, partAt, moreParts, documentFile};
+ghost use Rattle.documents.specs.PartList.{partLimit, namedTest, pathTest, kidsOn, partAt, moreParts, documentFile};
 ghost use Rattle.documents.specs.Reading.{parentAt, KidsAnswer, PartAnswer, partOf, PartsAnswer, listedAnswer, DocumentAnswer};
 use crate::context::parent_of;
 use files::number::Number;
@@ -18,6 +18,15 @@ use files::number::wide_number;
 use files::read::passed;
 use files::read::read_between;
 use files::sets::with;
+
+// How many parts a document may have.
+pub const PARTS: usize = 512;
+
+// The part count is below this.
+const LIMIT: u32 = 513;
+
+// A number that is at most the part limit is its own remainder by this.
+const TWICE: usize = 1024;
 
 // The place after a section, or its refusal.
 enum Section {
@@ -82,8 +91,8 @@ fn read_path(s: &[u8], at: usize, parent: &[u8; 64], count: u32, n: usize, set: 
 }
 
 // Part k gets path p among its namers' paths.
-fn mark(namers: &mut [u64; 512], k: usize, p: u8)
-    requires { ⌜ k < 512 ⌝ }
+fn mark(namers: &mut [u64; PARTS], k: usize, p: u8)
+    requires { ⌜ k < partLimit ⌝ }
     ensures { λ _. ⌜ now (namers .exit) ≡ set (now (namers .entry)) k (withPath (getD (now (namers .entry)) k 0) p) ⌝ }
 {
     namers[k] = with(namers[k], wide(p));
@@ -97,9 +106,9 @@ fn read_kids(
     n: u32,
     p: u8,
     many: u32,
-    namers: &mut [u64; 512],
+    namers: &mut [u64; PARTS],
 ) -> Section
-    requires { ⌜ (parts ≤ 512) × (n < 512) × (length (now namers) ≡ 512) ⌝ }
+    requires { ⌜ (parts ≤ partLimit) × (n < partLimit) × (length (now namers) ≡ partLimit) ⌝ }
     ensures { λ r. ⌜ KidsAnswer (now (s .entry)) at many p (now (namers .entry)) (now (namers .exit))
         (run (moreAscending 19 parts many n []) at (drop at (now (s .entry)))) r ⌝ }
 {
@@ -139,9 +148,9 @@ fn read_kid_count(
     parts: u32,
     n: u32,
     p: u8,
-    namers: &mut [u64; 512],
+    namers: &mut [u64; PARTS],
 ) -> OnePart
-    requires { ⌜ (parts ≤ 512) × (n < 512) × (length (now namers) ≡ 512) ⌝ }
+    requires { ⌜ (parts ≤ partLimit) × (n < partLimit) × (length (now namers) ≡ partLimit) ⌝ }
     ensures { λ r. ⌜ PartAnswer (now (s .entry)) (now (namers .entry)) (now (namers .exit))
         (run (kidsOn parts n p) at (drop at (now (s .entry)))) r ⌝ }
 {
@@ -163,9 +172,9 @@ fn read_part(
     count: u32,
     parts: u32,
     n: usize,
-    namers: &mut [u64; 512],
+    namers: &mut [u64; PARTS],
 ) -> OnePart
-    requires { ⌜ (count ≤ 64) × (parts ≤ 512) × (n < 512) × (length (now namers) ≡ 512) ⌝ }
+    requires { ⌜ (count ≤ 64) × (parts ≤ partLimit) × (n < partLimit) × (length (now namers) ≡ partLimit) ⌝ }
     ensures { λ r. ⌜ PartAnswer (now (s .entry)) (now (namers .entry)) (now (namers .exit))
         (run (partAt (parentAt (now (parent .entry))) count parts n (getD (now (namers .entry)) n 0)) at (drop at (now (s .entry)))) r ⌝ }
 {
@@ -176,7 +185,7 @@ fn read_part(
             s,
             at + width,
             parts,
-            (n % 512) as u32,
+            (n % PARTS) as u32,
             (p % 256) as u8,
             namers,
         ),
@@ -190,14 +199,14 @@ fn read_parts(
     parent: &[u8; 64],
     count: u32,
     parts: usize,
-    path: &mut [u8; 512],
-    place: &mut [usize; 512],
+    path: &mut [u8; PARTS],
+    place: &mut [usize; PARTS],
 ) -> Section
-    requires { ⌜ (count ≤ 64) × (parts ≤ 512) × (length (now path) ≡ 512) × (length (now place) ≡ 512) ⌝ }
+    requires { ⌜ (count ≤ 64) × (parts ≤ partLimit) × (length (now path) ≡ partLimit) × (length (now place) ≡ partLimit) ⌝ }
     ensures { λ r. ⌜ PartsAnswer (now (s .entry)) (now (path .exit)) (now (place .exit))
         (run (moreParts (parentAt (now (parent .entry))) count parts parts []) at (drop at (now (s .entry)))) r ⌝ }
 {
-    let mut namers = [0u64; 512];
+    let mut namers = [0u64; PARTS];
     let mut next = at;
     let mut n = 0usize;
     while n < parts {
@@ -206,7 +215,7 @@ fn read_parts(
             next,
             parent,
             count,
-            (parts % 1024) as u32,
+            (parts % TWICE) as u32,
             n,
             &mut namers,
         ) {
@@ -244,14 +253,14 @@ pub(crate) fn read_document(
     s: &[u8],
     parent: &[u8; 64],
     count: u32,
-    path: &mut [u8; 512],
-    place: &mut [usize; 512],
+    path: &mut [u8; PARTS],
+    place: &mut [usize; PARTS],
 ) -> Listed
-    requires { ⌜ (count ≤ 64) × (length (now path) ≡ 512) × (length (now place) ≡ 512) ⌝ }
+    requires { ⌜ (count ≤ 64) × (length (now path) ≡ partLimit) × (length (now place) ≡ partLimit) ⌝ }
     ensures { λ r. ⌜ DocumentAnswer (now (s .entry)) (now (path .exit)) (now (place .exit))
         (runAll (documentFile (parentAt (now (parent .entry))) count) (now (s .entry))) r ⌝ }
 {
-    match read_between(s, 0, 1, 513, 15) {
+    match read_between(s, 0, 1, LIMIT, 15) {
         Number::Refused(why) => Listed::Refused(why, 0),
         Number::Is(parts, width) => {
             let many = wide_number(parts);
