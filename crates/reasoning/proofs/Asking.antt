@@ -42,7 +42,6 @@ use Rattle.reasoning.proofs.CallLaws.{ask-refuses, ask-bars, ask-shows,
 use Rattle.reasoning.proofs.Calling.{passed-sound, passed-fits, passed-laid, passed-says, passed-clash, valid-passed}
 use Rattle.reasoning.proofs.QuestionJoins.{askable-asked, counter-begins}
 use Rattle.reasoning.proofs.TableArrays.{arrays-parents, arrays-rules}
-use Rattle.reasoning.proofs.ValidFits.{table-fits}
 
 -- ---- whether a question can be asked
 

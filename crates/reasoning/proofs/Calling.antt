@@ -39,7 +39,7 @@ use Rattle.handed.specs.Writer.{startOf, documentIn}
 use Rattle.handed.proofs.WrittenDocument.{document-written}
 use Rattle.reasoning.specs.declared.consistency.Verdict.{Verdict}
 use Rattle.reasoning.specs.Calls.{answerOf, DecidesConsistency}
-use Rattle.reasoning.specs.Lent.{Passed, LentSheet, Witnessed, Told}
+use Rattle.reasoning.specs.Lent.{Passed, Witnessed, Told}
 use Rattle.reasoning.proofs.CallLaws.{consistency-refuses, consistency-hands, consistency-shows}
 use Rattle.reasoning.proofs.ConsistencyJoins.{asked-begins}
 use Rattle.reasoning.proofs.TableArrays.{arrays-sound, arrays-parents, arrays-rules}
