@@ -22,7 +22,7 @@ const NO_PART: u16 = 512;
 
 // Whether a document obeys: the least broken rule and the least part that breaks it, the least required path missing, or the
 // refusal's number and offset.
-#[derive(Drop)]
+#[derive(Clone, Copy)]
 pub enum Checked {
     Obeys,
     Broken(usize, usize),
@@ -31,14 +31,14 @@ pub enum Checked {
 }
 
 // Where among the parts something stands: its number, or nowhere.
-#[derive(Drop)]
+#[derive(Clone, Copy)]
 enum Place {
     At(usize),
     Nowhere,
 }
 
 // The least broken rule and the least part that breaks it.
-#[derive(Drop)]
+#[derive(Clone, Copy)]
 enum Break {
     Broken(usize, usize),
     Unbroken,

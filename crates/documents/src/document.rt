@@ -23,21 +23,21 @@ const LIMIT: u32 = 513;
 const TWICE: usize = 1024;
 
 // The place after a section, or its refusal.
-#[derive(Drop)]
+#[derive(Clone, Copy)]
 enum Section {
     Read(usize),
     Refused(u8, usize),
 }
 
 // One part: its path, where its child count stands and the place after it.
-#[derive(Drop)]
+#[derive(Clone, Copy)]
 enum OnePart {
     Is(u8, usize, usize),
     Refused(u8, usize),
 }
 
 // How many parts a document has, or its refusal.
-#[derive(Drop)]
+#[derive(Clone, Copy)]
 pub(crate) enum Listed {
     Parts(usize),
     Refused(u8, usize),

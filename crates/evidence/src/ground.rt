@@ -4,7 +4,7 @@ ghost use Rattle.evidence.specs.Grounds.{given, says_yes};
 
 // None; a walk from the first path to the second; a dead path, the path that shows it and the row of the absence rule; or two paths,
 // the row of the absence rule that excludes them, and its side.
-#[derive(Drop)]
+#[derive(Clone, Copy)]
 pub enum Ground {
     None,
     Direct(usize, usize),
@@ -13,7 +13,7 @@ pub enum Ground {
 }
 
 // The ground of a question; for a co-occurrence one each way.
-#[derive(Drop)]
+#[derive(Clone, Copy)]
 pub struct Both {
     pub first: Ground,
     pub second: Ground,

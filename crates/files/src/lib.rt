@@ -1,4 +1,6 @@
 // Numbers, sets of paths, the rule table, and rule files in and out.
+#![tactic(auto)]
+
 pub mod number;
 pub mod read;
 pub mod rules;

@@ -4,7 +4,7 @@ ghost use Rattle.std.proofs.lemmas.List.Edits.{sets};
 ghost use Rattle.files.specs.Number.{limit, bytes_of, number_in, two_bytes};
 
 // What bytes begin with: a number's value and how many bytes it takes, or the refusal, 1 or 2.
-#[derive(Drop)]
+#[derive(Clone, Copy)]
 pub enum Number {
     Is(u32, usize),
     Refused(u8),

@@ -12,21 +12,21 @@ use crate::rules::Rules;
 use crate::sets::with;
 
 // One path: its parent, its label, its depth and the place after it.
-#[derive(Drop)]
+#[derive(Clone, Copy)]
 enum OnePath {
     Is(u8, u32, u8, usize),
     Refused(u8, usize),
 }
 
 // The place after a section, or its refusal.
-#[derive(Drop)]
+#[derive(Clone, Copy)]
 enum Section {
     Read(usize),
     Refused(u8, usize),
 }
 
 // All paths, by their parents and labels.
-#[derive(Drop)]
+#[derive(Clone, Copy)]
 struct Paths {
     end: Section,
     parent: [u8; 64],
@@ -34,21 +34,21 @@ struct Paths {
 }
 
 // The required paths.
-#[derive(Drop)]
+#[derive(Clone, Copy)]
 enum Required {
     Is(u64, usize),
     Refused(u8, usize),
 }
 
 // One rule: its kind, its left and right path and the place after it.
-#[derive(Drop)]
+#[derive(Clone, Copy)]
 enum OneRule {
     Is(u8, u8, u8, usize),
     Refused(u8, usize),
 }
 
 // All rules, by their kinds and sides.
-#[derive(Drop)]
+#[derive(Clone, Copy)]
 struct RuleList {
     end: Section,
     kind: [u8; 256],
@@ -57,14 +57,14 @@ struct RuleList {
 }
 
 // Whether a file was accepted, or its refusal's number and offset.
-#[derive(Drop)]
+#[derive(Clone, Copy)]
 pub enum Answer {
     Accepted,
     Refused(u8, usize),
 }
 
 // What reading hands back: the answer, and the rules (of a refused file the one-path table).
-#[derive(Drop)]
+#[derive(Clone, Copy)]
 pub struct Reading {
     pub answer: Answer,
     pub rules: Rules,

@@ -4,7 +4,7 @@ ghost use Rattle.files.specs.Rules.{parents_in, first_of};
 
 // Paths 0 to `paths` - 1 with their parents and labels, the required paths as a set (bit x: path x is required), and
 // rules 0 to `rules` - 1. Slots past the counts, and the root's parent, may hold anything.
-#[derive(Drop)]
+#[derive(Clone, Copy)]
 pub struct Rules {
     pub paths: usize,
     pub parent: [u8; 64],

@@ -13,7 +13,7 @@ use crate::sets;
 use crate::valid::valid_table;
 
 // How many bytes were written, or the refusal's number and offset.
-#[derive(Drop)]
+#[derive(Clone, Copy)]
 pub enum Written {
     Length(usize),
     Refused(u8, usize),

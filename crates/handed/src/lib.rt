@@ -1,4 +1,5 @@
 // The documents handed back: goals of parts, their numbers, and the bytes.
+#![tactic(auto)]
 pub mod document;
 mod emit;
 mod goals;

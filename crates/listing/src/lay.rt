@@ -7,7 +7,7 @@ use files::number::{Number, read_number};
 
 // What the next number is: the part count, a part's path, its child count, a child; or the first number of evidence, or a
 // further one.
-#[derive(Drop)]
+#[derive(Clone, Copy)]
 pub enum Stage {
     Count,
     Path,
@@ -19,7 +19,7 @@ pub enum Stage {
 
 // Where the text goes on: the place of the next number among the bytes and what it is, the number of its part, and how many
 // children are left.
-#[derive(Drop)]
+#[derive(Clone, Copy)]
 struct Place {
     at: usize,
     stage: Stage,
@@ -28,7 +28,7 @@ struct Place {
 }
 
 // The digits of a number stand in the last slots, from `from` on.
-#[derive(Drop)]
+#[derive(Clone, Copy)]
 struct Digits {
     from: usize,
     text: [u8; 20],

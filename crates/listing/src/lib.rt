@@ -1,2 +1,3 @@
 // The text that the verdict program prints, laid out in blocks.
+#![tactic(auto)]
 pub mod lay;

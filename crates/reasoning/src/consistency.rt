@@ -18,7 +18,7 @@ use reachable::grow::sheet_of;
 use reachable::sheet::WORDS;
 
 // Consistent with a document of so many bytes, inconsistent with evidence of so many bytes, or the refusal's number and place.
-#[derive(Drop)]
+#[derive(Clone, Copy)]
 pub enum Verdict {
     Consistent(usize),
     Inconsistent(usize),

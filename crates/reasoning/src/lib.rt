@@ -1,3 +1,4 @@
 // The two calls: consistency and questions.
+#![tactic(auto)]
 pub mod consistency;
 pub mod question;

@@ -18,7 +18,7 @@ use reachable::lay::lay;
 use reachable::sheet::{WORDS, context};
 
 // Yes with evidence of so many bytes, no with a counter-document of so many bytes, or the refusal's number and place.
-#[derive(Drop)]
+#[derive(Clone, Copy)]
 pub enum Reply {
     Yes(usize),
     No(usize),
@@ -72,7 +72,7 @@ fn put_yes(sheet: &[u64; WORDS], b: Both, out: &mut [u8]) -> Reply
 }
 
 // A question: its kind and its two paths.
-#[derive(Drop)]
+#[derive(Clone, Copy)]
 struct Question {
     kind: u8,
     first: usize,
@@ -80,7 +80,7 @@ struct Question {
 }
 
 // What a counter-document begins with: the goals of its part 0, and their context.
-#[derive(Drop)]
+#[derive(Clone, Copy)]
 struct Begins {
     goals: u64,
     top: usize,

@@ -9,7 +9,7 @@ use reasoning::question::{Reply, ask};
 // The room of every buffer here: no answer about at most six paths is longer.
 pub const ROOM: usize = 512;
 
-#[derive(Drop)]
+#[derive(Clone, Copy)]
 pub enum Call {
     Write,
     Decide,
@@ -29,7 +29,7 @@ pub const DENIED: u64 = 5;
 pub const REFUSED: u64 = 6;
 
 // What a call answered; the length of its bytes, or the refusal's number; the refusal's place.
-#[derive(Drop)]
+#[derive(Clone, Copy)]
 pub struct Outcome {
     pub answer: u64,
     pub length: usize,

@@ -12,7 +12,7 @@ use crate::paths::{common, parent_of, prefixes};
 use crate::small::{SmallSet, rule_of};
 
 // For each path: the sets that nodes on it could have by their subtrees alone, and those that break no rule there besides.
-#[derive(Drop)]
+#[derive(Clone, Copy)]
 pub struct Families {
     pub free: [u64; 8],
     pub obeying: [u64; 8],

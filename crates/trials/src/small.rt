@@ -2,7 +2,7 @@
 use files::number::wide;
 use files::rules::Rules;
 
-#[derive(Drop)]
+#[derive(Clone, Copy)]
 pub struct SmallSet {
     pub paths: usize,
     pub parent: [u8; 8],
@@ -16,7 +16,7 @@ pub struct SmallSet {
 // What stands in the slots that no call may look at.
 const UNUSED: u8 = 201;
 
-#[derive(Drop)]
+#[derive(Clone, Copy)]
 pub struct SmallRule {
     pub kind: u8,
     pub left: usize,

@@ -1,4 +1,5 @@
 // Reads a rule file from standard input and writes the text that is laid out for it. Only bytes are moved here.
+#![tactic(auto)]
 use libc::{STDIN_FILENO, STDOUT_FILENO};
 use printing::{TEXT, print};
 
