@@ -47,7 +47,7 @@ holder_only first hs (k ∷ ks) y h =
     more : Holder first hs ks y → Holder first hs (k ∷ ks) y
     more o = record { part = o.part; listed = Memᴰ.tail o.listed; holds = o.holds }
 
-holder_if : (first : ℕ) (hs : List ℕ) {ks : List ℕ} {k : ℕ} (y : ℕ) → Memᴰ k ks → Has (get_or hs (k - first) 0) y
+holder_if : (first : ℕ) (hs : List ℕ) {k : ℕ} {ks : List ℕ} (y : ℕ) → Memᴰ k ks → Has (get_or hs (k - first) 0) y
     → Has (held_by first hs ks) y
 unfolding held_by
 holder_if first hs {k = k} y (Memᴰ.head {x = x} {xs = ks} e) h =

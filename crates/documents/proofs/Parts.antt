@@ -83,6 +83,7 @@ module _ {P : Type 0} {path : P → ℕ} {kids : P → List P} where
 
   -- a part of the list has a copy in the forest
   listed_copy : {ps : List P} {f : Forest} {p : P} → Unfolds path kids ps f → Memᴰ p ps → Copy path kids p f
+  listed_copy {p = p} nothing x4 = elim x4 [ ]
   listed_copy (copy {p = q} {under = v} {rest = w} u r) (Memᴰ.head e) =
       subst (λ (z : P). Copy path kids z (tree (path q) v w)) (sym e) (record { under = v; unfolds = u; node = here })
   listed_copy (copy u r) (Memᴰ.tail m) =
@@ -98,6 +99,7 @@ module _ {P : Type 0} {path : P → ℕ} {kids : P → List P} where
 
   -- every node of the forest is a copy of a named part
   pub node_copy : {ps : List P} {x : ℕ} {u f : Forest} → Unfolds path kids ps f → Node x u f → CopyOf path kids ps x u
+  node_copy {u = u} nothing x7 = elim x7 [ ]
   node_copy (copy {p = p} u r) here = record { part = p; named = given (Memᴰ.head refl); on = refl; unfolds = u }
   node_copy (copy {p = p} u r) (deeper n) =
       let c = node_copy u n in

@@ -4,7 +4,7 @@ use mathlib.Core.Path.{◌≡◌, refl, sym, subst}
 use mathlib.Core.Logic.{◌⊎◌, inl, inr}
 use native.Mathlib.Omega.{arith}
 use Rattle.documents.specs.Paths.{Below, StrictlyBelow, Descending}
-use Rattle.documents.specs.Tree.{
+use Rattle.documents.specs.Tree.{nothing, 
   Forest,
   none,
   tree,
@@ -55,6 +55,7 @@ node_trans (beside n) m = beside (node_trans n m)
 
 -- a node of the tree that a node makes is a node of the forest
 pub node_within : {x y : ℕ} {u v f : Forest} → Node x u f → Node y v (tree x u none) → Node y v f
+node_within {y = y} {u = u} {v = v} {f = f} n (beside x5) = elim x5 [ ]
 node_within n here = n
 node_within n (deeper m) = node_trans n m
 
@@ -108,6 +109,7 @@ module _ {parent : ℕ → ℕ} (desc : Descending parent) where
 
   -- each node of what stands under p is placed below p
   pub under_placed : {count p x : ℕ} {u f : Forest} → Under parent count p f → Node x u f → Placed parent count p x u
+  under_placed {count = count} {u = u} (nothing {p = p}) x7 = elim x7 [ ]
   under_placed (child z s e k r) here = record { below = child_strictly z e; small = s; under = k }
   under_placed (child z s e k r) (deeper n) =
       let q = under_placed k n in
@@ -124,6 +126,7 @@ module _ {parent : ℕ → ℕ} (desc : Descending parent) where
 
   among : {count p m x : ℕ} {v f : Forest} → Under parent count p f → Node x v f → StrictlyBelow parent p m → Below parent m x
       → Through f m x v
+  among {count = count} {m = m} {x = x} {v = v} (nothing {p = p}) x13 t b = elim x13 [ ]
   among {m = m} {x} {v} (child {rest = rest} z s e d r) here t b =
       let w : m ≡ x = child_prefix e t b in
       record {
@@ -150,6 +153,7 @@ module _ {parent : ℕ → ℕ} (desc : Descending parent) where
   -- a node in the tree of a node on c stands in the tree of a node on every path between
   pub through : {count c m x : ℕ} {u v : Forest} → Under parent count c u → Node x v (tree c u none) → Below parent c m
       → Below parent m x → Through (tree c u none) m x v
+  through {count = count} {c = c} {m = m} {x = x} {u = u} {v = v} d (beside x7) l b = elim x7 [ ]
   through {c = c} {m} {u = u} d here l b =
       let w : c ≡ m = below_antisym desc l b in
       record {
@@ -173,11 +177,13 @@ module _ {parent : ℕ → ℕ} (desc : Descending parent) where
 
   -- what may stand under a node of a document, and its path in the table
   pub document_under : {count x : ℕ} {u d : Forest} → Document parent count d → Node x u d → Under parent count x u
+  document_under {count = count} {u = u} (document {kids = kids} k) (beside x8) = elim x8 [ ]
   document_under (document k) here = k
   document_under (document k) (deeper n) = (under_placed k n).under
 
   -- a document's node on the root holds everything that the document holds
   pub document_root : {count y : ℕ} {u d : Forest} → Document parent count d → Node 0 u d → Holds d y → NodeHolds 0 u y
+  document_root {count = count} {y = y} {u = u} (document {kids = kids} k) (beside x10) h = elim x10 [ ]
   document_root (document k) here h = tree_node_holds h
   document_root (document k) (deeper n) h = absurd (omega (arith, strictly_lt desc (under_placed k n).below))
 
