@@ -35,7 +35,7 @@ module _ {A : Type 0} (test : A → Bool) where
           let s = again (rw (someb, e) at t) in
           record { member = s.member; listed = Memᴰ.tail s.listed; passes = s.passes }
 
-  pub some_someb : {l : List A} (a : A) → Memᴰ a l → T (test a) → T (someb test l)
+  pub some_someb : (a : A) {l : List A} → Memᴰ a l → T (test a) → T (someb test l)
   unfolding someb
   some_someb a (Memᴰ.head {x = b} e) t = rw (subst (λ z. test z ≡ true) e (true_of (test a) t), someb) tt
     where

@@ -54,10 +54,12 @@ fits_e1 = record {
 }
   where
     lefts : (r : ℕ) (ru : Rule) → Numbered rules_e1 r ru → ru.left < 5
+    lefts _ ru (later (later {r = r} x10)) = elim x10 [ ]
     lefts r ru first = lit≤ tt
     lefts r ru (later first) = lit≤ tt
 
     rights : (r : ℕ) (ru : Rule) → Numbered rules_e1 r ru → ru.right < 5
+    rights _ ru (later (later {r = r} x10)) = elim x10 [ ]
     rights r ru first = lit≤ tt
     rights r ru (later first) = lit≤ tt
 
@@ -70,11 +72,13 @@ fits_e2 = record {
 }
   where
     lefts : (r : ℕ) (ru : Rule) → Numbered rules_e2 r ru → ru.left < 5
+    lefts _ ru (later (later (later {r = r} x15))) = elim x15 [ ]
     lefts r ru first = lit≤ tt
     lefts r ru (later first) = lit≤ tt
     lefts r ru (later (later first)) = lit≤ tt
 
     rights : (r : ℕ) (ru : Rule) → Numbered rules_e2 r ru → ru.right < 5
+    rights _ ru (later (later (later {r = r} x15))) = elim x15 [ ]
     rights r ru first = lit≤ tt
     rights r ru (later first) = lit≤ tt
     rights r ru (later (later first)) = lit≤ tt
@@ -84,6 +88,7 @@ abbrev pub mentioned : List ℕ
 mentioned = 2 ∷ 3 ∷ 4 ∷ []
 
 in_T : (x : ℕ) → Memᴰ x mentioned → x < 5
+in_T x (Memᴰ.tail (Memᴰ.tail (Memᴰ.tail x13))) = elim x13 [ ]
 in_T x (Memᴰ.head e) = omega arith
 in_T x (Memᴰ.tail (Memᴰ.head e)) = omega arith
 in_T x (Memᴰ.tail (Memᴰ.tail (Memᴰ.head e))) = omega arith
@@ -129,6 +134,8 @@ implication_path_fails = (
 )
 
 mentions : (x : ℕ) → Mentioned rules_e2 x → Memᴰ x mentioned
+mentions x (left _ ru (later (later (later {r = r} x17))) e) = elim x17 [ ]
+mentions x (right _ ru (later (later (later {r = r} x18))) e) = elim x18 [ ]
 mentions x (left r ru first e) = Memᴰ.head (sym e)
 mentions x (left r ru (later first) e) = Memᴰ.tail (Memᴰ.tail (Memᴰ.head (sym e)))
 mentions x (left r ru (later (later first)) e) = Memᴰ.head (sym e)

@@ -49,7 +49,7 @@ pub data KidOf (parent : ℕ → ℕ) (rules : List Rule) (c : ℕ) (goals : Lis
 
 module _ {parent : ℕ → ℕ} (desc : Descending parent) where
   -- every goal is below the context of all
-  pub meet_above : {goals : List ℕ} {g : ℕ} → Memᴰ g goals → Below parent (meet_all parent goals) g
+  pub meet_above : {g : ℕ} {goals : List ℕ} → Memᴰ g goals → Below parent (meet_all parent goals) g
   unfolding meet_all
   meet_above {g = g} (Memᴰ.head {x = x} {xs = xs} e) = subst (λ (z : ℕ). Below parent (meet_all parent (x ∷ xs)) z) (sym e) (first xs)
     where

@@ -25,7 +25,7 @@ module _ {A : Type 0} where
   numbered_member NumberedIn.first = Memᴰ.head refl
   numbered_member (NumberedIn.later m) = Memᴰ.tail (numbered_member m)
 
-  pub member_numbered : {l : List A} {a : A} → Memᴰ a l → (n : ℕ) × NumberedIn l n a
+  pub member_numbered : {a : A} {l : List A} → Memᴰ a l → (n : ℕ) × NumberedIn l n a
   member_numbered (Memᴰ.head {x = x} {xs = xs} e) = (0, subst (λ (z : A). NumberedIn (x ∷ xs) 0 z) (sym e) NumberedIn.first)
   member_numbered (Memᴰ.tail m) = let r = member_numbered m in (suc r.0, NumberedIn.later r.1)
 
@@ -61,6 +61,7 @@ module _ {A : Type 0} where
   module _ {Before : A → A → Type 0} where
     -- of two numbered members of a sorted list the one with the lesser number stands before
     pub sorted_before : {l : List A} {i j : ℕ} {a b : A} → Sorted Before l → NumberedIn l i a → NumberedIn l j b → i < j → Before a b
+    sorted_before {i = i} {j = j} {a = a} {b = b} Sorted.none x7 _ l = elim x7 [ ]
     sorted_before (Sorted.next h s) NumberedIn.first NumberedIn.first l = absurd (omega arith)
     sorted_before {b = b} (Sorted.next h s) NumberedIn.first (NumberedIn.later k) l = h b (numbered_member k)
     sorted_before (Sorted.next h s) (NumberedIn.later m) NumberedIn.first l = absurd (omega arith)
@@ -144,7 +145,7 @@ module _ {A B : Type 0} where
           let r = again n in
           record { source = r.source; listed = Memᴰ.tail r.listed; member = r.member }
 
-  pub from_each : (f : A → List B) {l : List A} {a : A} {b : B} → Memᴰ a l → Memᴰ b (f a) → Memᴰ b (each_of f l)
+  pub from_each : (f : A → List B) {a : A} {l : List A} {b : B} → Memᴰ a l → Memᴰ b (f a) → Memᴰ b (each_of f l)
   unfolding each_of
   from_each f {b = b} (Memᴰ.head {x = x} {xs = xs} e) m =
       Memᴰ.append_left (each_of f xs) (subst (λ (z : A). Memᴰ b (f z)) e m)
@@ -159,7 +160,7 @@ module _ {A B : Type 0} where
       pick (inl e) again = (a, Memᴰ.head refl, e)
       pick (inr n) again = let r = again n in (r.0, Memᴰ.tail r.1, r.2)
 
-  pub from_map : (f : A → B) {l : List A} {a : A} → Memᴰ a l → Memᴰ (f a) (map f l)
+  pub from_map : (f : A → B) {a : A} {l : List A} → Memᴰ a l → Memᴰ (f a) (map f l)
   from_map f (Memᴰ.head e) = Memᴰ.head (ap f e)
   from_map f (Memᴰ.tail m) = Memᴰ.tail (from_map f m)
 
@@ -207,10 +208,12 @@ module _ {A B : Type 0} {Fit : A → B → Type 0} where
 
   pub matches_right : {l : List A} {m : List B} {n : ℕ} {a : A} → Matches Fit l m → NumberedIn l n a
       → (b : B) × NumberedIn m n b × Fit a b
+  matches_right {n = n} {a = a} Matches.none x4 = elim x4 [ ]
   matches_right (Matches.next {b = b} h m) NumberedIn.first = (b, NumberedIn.first, h)
   matches_right (Matches.next h m) (NumberedIn.later k) = let r = matches_right m k in (r.0, NumberedIn.later r.1, r.2)
 
   pub matches_partner : {l : List A} {m : List B} {b : B} → Matches Fit l m → Memᴰ b m → (a : A) × Memᴰ a l × Fit a b
+  matches_partner {b = b} Matches.none x4 = elim x4 [ ]
   matches_partner (Matches.next {a = a} h m) (Memᴰ.head e) = (a, Memᴰ.head refl, subst (Fit a) (sym e) h)
   matches_partner (Matches.next h m) (Memᴰ.tail k) = let r = matches_partner m k in (r.0, Memᴰ.tail r.1, r.2)
 
