@@ -1,0 +1,13 @@
+-- `reachable::lay::lay_list` meets its contract.
+use Prim.Native.Nat.{◌-◌, ◌≤◌}
+use mathlib.Core.Path.{◌≡◌}
+use Rattle.files.specs.Rules.{rules_from}
+use Rattle.reachable.specs.Arrays.{rule_list}
+use Rattle.reachable.specs.Sheet.{lay_list}
+use Rattle.reachable.proofs.lay.lay_list.Given as goal
+
+abbrev pub invariant-loop-r : goal.invariant-loop-r
+invariant-loop-r l = (l.r ≤ l.many) × (lay_list (rules_from l.kind l.left l.right l.r (l.many - l.r)) l.r l.sheet ≡ lay_list (rule_list l.kind l.left l.right l.many) 0 l.initial.sheet)
+
+abbrev pub decreases-loop-r : goal.decreases-loop-r
+decreases-loop-r l = l.many - l.r
