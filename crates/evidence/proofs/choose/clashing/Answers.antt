@@ -1,0 +1,32 @@
+-- `evidence::choose::clashing` meets its contract.
+use borrow.Author.Rules.{rules}
+use Rattle.evidence.proofs.Choosing.{below_laws}
+use Prim.Native.Nat.{◌-◌}
+use Rattle.evidence.proofs.choose.clashing.Goals as goal
+
+pub absences-n-requires : goal.absences-n-requires
+absences-n-requires c = search (rules, below_laws)
+
+pub loop-j-init : goal.loop-j-init
+loop-j-init c = search (rules, below_laws)
+
+pub absence-requires : goal.absence-requires
+absence-requires c = search (rules, below_laws)
+
+pub clash_by-requires : goal.clash_by-requires
+clash_by-requires c = search (rules, below_laws)
+
+pub union-w-requires : goal.union-w-requires
+union-w-requires c = search (rules, below_laws)
+
+pub overflow_add-j : goal.overflow_add-j
+overflow_add-j c = search (rules, below_laws)
+
+pub loop-j-smaller : goal.loop-j-smaller
+loop-j-smaller c = search (rules, below_laws)
+
+pub loop-j-preserved : goal.loop-j-preserved
+loop-j-preserved c = search (rules, below_laws)
+
+pub returns : goal.returns
+returns c = search (rules, below_laws)

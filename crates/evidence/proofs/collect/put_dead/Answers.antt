@@ -1,0 +1,7 @@
+-- `evidence::collect::put_dead` meets its contract.
+use borrow.Author.Rules.{rules}
+use Rattle.evidence.proofs.Collecting.{stored_laws}
+use Rattle.evidence.proofs.collect.put_dead.Goals as goal
+
+pub returns : goal.returns
+returns c = search (rules, stored_laws)

@@ -1,0 +1,28 @@
+-- `handed::numbering::under` meets its contract: what is gathered and what remains is the whole.
+use borrow.Author.Rules.{rules}
+use Rattle.handed.proofs.Places.{under_in_laws}
+use Rattle.handed.proofs.numbering.under.Goals as goal
+
+pub loop-left-init : goal.loop-left-init
+loop-left-init c = search (rules, under_in_laws)
+
+pub lowest-requires : goal.lowest-requires
+lowest-requires c = search (rules, under_in_laws)
+
+pub children-requires : goal.children-requires
+children-requires c = search (rules, under_in_laws)
+
+pub union-all-requires : goal.union-all-requires
+union-all-requires c = search (rules, under_in_laws)
+
+pub without_lowest-left-requires : goal.without_lowest-left-requires
+without_lowest-left-requires c = search (rules, under_in_laws)
+
+pub loop-left-smaller : goal.loop-left-smaller
+loop-left-smaller c = search (rules, under_in_laws)
+
+pub loop-left-preserved : goal.loop-left-preserved
+loop-left-preserved c = search (rules, under_in_laws)
+
+pub returns : goal.returns
+returns c = search (rules, under_in_laws)
