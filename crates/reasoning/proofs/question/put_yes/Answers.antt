@@ -1,0 +1,14 @@
+-- `reasoning::question::put_yes` meets its contract.
+use Rattle.reasoning.proofs.Calling.{told, lent_some, lent_within}
+use native.Mathlib.Omega.{arith}
+use Rattle.reasoning.specs.declared.question.Reply.{Reply}
+use Rattle.reasoning.proofs.question.put_yes.Goals as goal
+
+pub slice_bounds-numbers-end : goal.slice_bounds-numbers-end
+slice_bounds-numbers-end c = lent_within _ _ _ _ _ c.put_both-n.ensures (omega arith)
+
+pub slice_bounds-put_numbers-end : goal.slice_bounds-put_numbers-end
+slice_bounds-put_numbers-end c = lent_some _ _ _ _ _ c.put_both-n.ensures (omega arith)
+
+pub returns : goal.returns
+returns c = told Reply.Yes Reply.Refused _ _ _ _ _ _ c.put_both-n.ensures (omega arith) _ _ _ c.put_numbers.ensures c.affirmed.ensures
