@@ -7,15 +7,15 @@ use Rattle.files.proofs.Writer.{some_paths, few_paths, few_rules_lem}
 use Rattle.documents.proofs.check.check_document.Goals as goal
 
 pub returns-then-not-valid_table : goal.returns-then-not-valid_table
-returns-then-not-valid_table c = checks _ _ _ (search rules) (λ i. omega (arith, c.shared_slice_known-1.given i)) (search (rules, answer_laws))
+returns-then-not-valid_table c = checks _ _ _ (search rules) (λ i. omega (arith, c.type_inv.document i)) (search (rules, answer_laws))
 
 pub returns-then-document-gt65536 : goal.returns-then-document-gt65536
-returns-then-document-gt65536 c = checks _ _ _ (search rules) (λ i. omega (arith, c.shared_slice_known-1.given i))
+returns-then-document-gt65536 c = checks _ _ _ (search rules) (λ i. omega (arith, c.type_inv.document i))
     (search (rules, answer_laws))
 
 pub check_parts-requires : goal.check_parts-requires
 check_parts-requires c = search (rules, answer_laws, some_paths, few_paths, few_rules_lem)
 
 pub returns : goal.returns
-returns c = checks _ _ _ (search rules) (λ i. omega (arith, c.shared_slice_known-1.given i))
+returns c = checks _ _ _ (search rules) (λ i. omega (arith, c.type_inv.document i))
     (search (rules, answer_laws))

@@ -1,0 +1,11 @@
+-- `entry::numbers::replied` meets its contract.
+use Rattle.entry.proofs.numbers.replied.Goals as goal
+
+pub returns-in-Yes : goal.returns-in-Yes
+returns-in-Yes c = cc
+
+pub returns-in-No : goal.returns-in-No
+returns-in-No c = cc
+
+pub returns-in-Refused : goal.returns-in-Refused
+returns-in-Refused c = cc
