@@ -1,5 +1,6 @@
 // Tries the public calls: the examples and limits of 01, and random small sets against a search that shares nothing with them.
 #![tactic(auto)]
+
 mod build;
 mod calls;
 mod examples;

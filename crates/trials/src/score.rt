@@ -1,7 +1,7 @@
 // How many cases of each group passed and failed, and the lines printed about them.
 ghost use Rattle.std.specs.Prelude.{◌<◌};
 
-use libc::STDOUT_FILENO;
+const STANDARD_OUTPUT: i32 = 1;
 
 pub const EXAMPLES: usize = 0;
 
@@ -24,11 +24,11 @@ pub const EVIDENCE: usize = 8;
 const TOTAL: usize = 15;
 
 fn print(text: &[u8]) {
-    io::write_all(STDOUT_FILENO, text);
+    io::write_all(STANDARD_OUTPUT, text);
 }
 
 fn print_number(n: u64) {
-    io::print_decimal(STDOUT_FILENO, n);
+    io::print_decimal(STANDARD_OUTPUT, n);
 }
 
 fn print_name(group: usize) {

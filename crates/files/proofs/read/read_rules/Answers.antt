@@ -9,7 +9,7 @@ pub read_root-requires : goal.read_root-requires
 read_root-requires c = search (rules, file_laws)
 
 pub returns-in-Refused : goal.returns-in-Refused
-returns-in-Refused c = reads_bytes _ _ (λ i. omega (arith, c.type_inv.s i)) (search (rules, file_laws))
+returns-in-Refused c = reads_bytes _ _ (λ i. omega (arith, c.type_inv.bytes i)) (search (rules, file_laws))
 
 pub returns-in-Is : goal.returns-in-Is
-returns-in-Is c = reads_bytes _ _ (λ i. omega (arith, c.type_inv.s i)) (search (rules, file_laws))
+returns-in-Is c = reads_bytes _ _ (λ i. omega (arith, c.type_inv.bytes i)) (search (rules, file_laws))
