@@ -4,7 +4,8 @@ use mathlib.Core.Path.{◌≡◌, refl, sym, subst}
 use mathlib.Core.Logic.{◌⊎◌, inl, inr}
 use native.Mathlib.Omega.{arith}
 use Rattle.documents.specs.Paths.{Below, StrictlyBelow, Descending}
-use Rattle.documents.specs.Tree.{nothing, 
+use Rattle.documents.specs.Tree.{
+  nothing,
   Forest,
   none,
   tree,

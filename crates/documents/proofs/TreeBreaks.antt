@@ -16,7 +16,7 @@ use Rattle.documents.specs.Tree.{Forest, Node, NodeHolds, Holds}
 use Rattle.documents.specs.Obey.{ObeysRule, HoldsAll}
 use Rattle.documents.specs.Parts.{Unfolds, PartHolds, Named, PartsImplication}
 use Rattle.documents.specs.PartList.{Entry, entry_path, entry_kids, ValidParts, StandsFor}
-use Rattle.documents.specs.Checking.{breaks, held}
+use Rattle.documents.specs.Checking.{held}
 use Rattle.documents.specs.Judgement.{Violates, without, against, both, PartBreaks, LeastMissing}
 use Rattle.documents.proofs.Paths.{context_is, context_sym, context_of_context}
 use Rattle.documents.proofs.Parts.{named_copy, copy_holds, one_holds, parts_rule}

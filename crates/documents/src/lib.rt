@@ -1,5 +1,6 @@
 // Paths and documents: what obeying means, and checking a document.
 #![tactic(auto)]
+
 pub mod check;
 pub mod context;
 mod document;

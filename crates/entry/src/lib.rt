@@ -1,6 +1,7 @@
 // The calls over bytes, for programs in C and Rust. Each takes the bytes of a rule file, lays its answer in three numbers
 // and, where it writes, puts its bytes into the lent buffer.
 #![tactic(auto)]
+
 ghost use Rattle.entry.specs.Calls.{Rewrites, Checks, Decides, Asks};
 
 use documents::check::check_document;

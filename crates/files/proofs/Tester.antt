@@ -14,7 +14,7 @@ use Rattle.files.specs.RuleFile.{between, deeper, depths, parent_test, label_tes
 use Rattle.files.specs.Rules.{paths_from, rules_from, padded}
 use Rattle.files.specs.Sets.{common, difference, below_all}
 use Rattle.files.specs.Table.{Path}
-use Rattle.files.specs.TableTest.{both, path_passes, passing_depth, paths_pass, rule_at, rule_passes, rules_pass, required_pass, paths_valid, rules_valid, table_passes}
+use Rattle.files.specs.TableTest.{path_passes, passing_depth, paths_pass, rule_at, rule_passes, rules_pass, required_pass, paths_valid, rules_valid, table_passes}
 use Rattle.files.proofs.Collect.{rules_step}
 use Rattle.files.proofs.Padded.{padded_get, padded_store}
 use Rattle.files.proofs.Reader.{between_low, between_past, between_in, paths_step, paths_own, parent_padded, parent_below, parent_shallow}

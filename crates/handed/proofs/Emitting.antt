@@ -17,7 +17,7 @@ use Rattle.files.proofs.SetLowest.{has_lowest, without_lowest_less}
 use Rattle.files.proofs.SetMembers.{size_le, size_without_lowest, members_take, members_of_zero}
 use Rattle.reachable.specs.Sheet.{row}
 use Rattle.theory.specs.Handed.{gather, each_of, only_if}
-use Rattle.handed.specs.Emit.{size_of, Emitted, first_in, number_in, one_number, kids_under, kid_paths, kid_count, kids_on_path}
+use Rattle.handed.specs.Emit.{size_of, Emitted, number_in, one_number, kids_under, kid_paths, kid_count, kids_on_path}
 
 -- ---- what is emitted, and what remains
 

@@ -18,7 +18,7 @@ use Rattle.theory.specs.Least.{some_in}
 use Rattle.reachable.specs.Sheet.{row, slot_of, parent_in, paths_in}
 use Rattle.theory.specs.Handed.{highest, gather, severalb}
 use Rattle.handed.specs.Goals.{inside, inside_any, fill_in, own_of, kids_in, one_in, all_in, chain_in, root_of}
-use Rattle.handed.specs.Plan.{plan_words, whole_in, all_for, opened, goals_here, kids_here, plan_path, plan_paths}
+use Rattle.handed.specs.Plan.{whole_in, all_for, opened, goals_here, kids_here, plan_path, plan_paths}
 use Rattle.theory.proofs.HandedGather.{gather_end, gather_step}
 use Rattle.theory.proofs.HandedWords.{has_none, has_positive}
 

@@ -1,16 +1,16 @@
 -- On the sheet of a table the goals of parts are those of the theory: what a part's children have for goals.
 use Prim.Native.Nat.{ℕ, zero, suc, ◌+◌, ◌*◌, ◌-◌, ◌^◌, ◌≤◌, ◌<◌}
-use mathlib.Core.Path.{◌≡◌, refl, sym, ap, ap₂, ◌∙◌, subst}
+use mathlib.Core.Path.{◌≡◌, refl, sym, ap, ◌∙◌, subst}
 use mathlib.Core.Logic.{◌⊎◌, inl, inr}
-use mathlib.Core.Bool.{Bool, true, false, not}
+use mathlib.Core.Bool.{Bool, true, false}
 use mathlib.Core.List.{List}
 use native.Mathlib.Omega.{arith}
 use lib.Count.{count_leading_zeros, leading_top}
 use lib.Dec.{eqb, lit<}
 use lib.ListN.{get_or}
-use borrow.Author.Tests.{eqb-true, eqb-false}
+use borrow.Author.Tests.{eqb-false}
 use Rattle.files.specs.Table.{Rule}
-use Rattle.files.specs.Sets.{bit, Has, hasb, with_path, without_path, union, difference, lowest, without_lowest}
+use Rattle.files.specs.Sets.{bit, Has, with_path, without_path, union, difference, lowest, without_lowest}
 use Rattle.files.proofs.SetBits.{bit_cases, hasb_has, has_difference, has_without, bit_absent, without_absent, without_lt, difference_lt}
 use Rattle.files.proofs.SetLowest.{has_lowest, has_without_lowest, without_lowest_lt}
 use Rattle.files.proofs.SetMembers.{size_le}

@@ -1,9 +1,9 @@
 -- On the sheet of a table the plan is that of the theory: the goals of the parts on each path, the order of the paths, and the number of
 -- the first part on each.
-use Prim.Native.Nat.{ℕ, zero, suc, ◌+◌, ◌-◌, ◌%◌, ◌^◌, ◌≤◌, ◌<◌}
-use mathlib.Core.Path.{◌≡◌, refl, sym, ap, ap₂, ◌∙◌, subst}
+use Prim.Native.Nat.{ℕ, zero, suc, ◌+◌, ◌%◌, ◌^◌, ◌≤◌, ◌<◌}
+use mathlib.Core.Path.{◌≡◌, refl, sym, ap, ◌∙◌, subst}
 use mathlib.Core.Logic.{◌⊎◌, inl, inr, ◌↔◌}
-use mathlib.Core.Bool.{Bool, true, false, not}
+use mathlib.Core.Bool.{Bool, true, false}
 use mathlib.Core.List.{List, [], ◌∷◌, ◌++◌, Memᴰ}
 use native.Mathlib.Omega.{arith}
 use native.Mathlib.Decide.{ℕ_discrete}
@@ -12,13 +12,12 @@ use lib.ListN.{length, get_or, set, replicate, length-set, length-replicate}
 use lib.Seq.{get_or-set_same, get_or-set_other}
 use borrow.Author.Tests.{eqb-true, eqb-false, eq-eqb, ne_eqb}
 use Rattle.files.specs.Table.{Rule}
-use Rattle.files.specs.Sets.{bit, Has, hasb, with_path, common, size, members}
+use Rattle.files.specs.Sets.{Has, hasb, with_path, members}
 use Rattle.files.proofs.SetBits.{same_sets, has_with, with_lt, hasb_true}
 use Rattle.files.proofs.SetMembers.{size_le}
-use Rattle.documents.specs.Paths.{Below, StrictlyBelow, Descending, towards, depth_of}
+use Rattle.documents.specs.Paths.{Below, StrictlyBelow, Descending, depth_of}
 use Rattle.documents.proofs.Paths.{below_le, below_trans, towards_below, depth_root, depth_child}
 use Rattle.theory.specs.Reachable.{Fits, reachable, subtree}
-use Rattle.theory.specs.Least.{passing}
 use Rattle.theory.specs.Order.{Sorted}
 use Rattle.theory.specs.Handed.{
   Start,
@@ -38,18 +37,17 @@ use Rattle.theory.specs.Handed.{
   parts_on,
   place_of,
 }
-use Rattle.theory.proofs.Kids.{Goals, meet_above}
+use Rattle.theory.proofs.Kids.{meet_above}
 use Rattle.theory.proofs.Least.{passing_iff, passing_small}
 use Rattle.theory.proofs.Reachable.{subtree_iff, subtree_small}
 use Rattle.theory.proofs.HandedDocuments.{reachable_words}
-use Rattle.theory.proofs.HandedKids.{GoalWord}
 use Rattle.theory.proofs.HandedNamed.{top_small, chain_iff, goals_of, row_named}
 use Rattle.theory.proofs.HandedOrder.{Earlier, shallower, beside, order_sorted, order_mem, order_in_table}
 use Rattle.theory.proofs.HandedRows.{Begins, row_root, row_next_lem, row_small}
 use Rattle.theory.proofs.HandedWords.{has_none, climb_iff, gather_iff, gather_small, Given}
-use Rattle.reachable.specs.Sheet.{row, above_at, below_at, child_at, slot_of, parent_in, paths_in}
+use Rattle.reachable.specs.Sheet.{row, above_at, below_at, child_at, slot_of, paths_in}
 use Rattle.reachable.specs.SheetWords.{PathWords, SetWords}
-use Rattle.handed.specs.Goals.{kids_in, one_in, all_in, chain_in, root_of}
+use Rattle.handed.specs.Goals.{one_in, all_in, chain_in, root_of}
 use Rattle.handed.specs.Plan.{
   all_for,
   opened,

@@ -1,11 +1,10 @@
 -- On the sheet of a table the numbers that the code emits are those of the document handed back.
-use Prim.Native.Nat.{ℕ, suc, ◌+◌, ◌%◌, ◌^◌, ◌≤◌, ◌<◌}
+use Prim.Native.Nat.{ℕ, ◌+◌, ◌%◌, ◌^◌, ◌≤◌, ◌<◌}
 use mathlib.Core.Path.{◌≡◌, refl, sym, ap, ap₂, ◌∙◌, subst}
 use mathlib.Core.Logic.{◌⊎◌, inl, inr, ◌↔◌}
 use mathlib.Core.Bool.{Bool, true, false, ◌&&◌}
 use mathlib.Core.List.{List, [], ◌∷◌, ◌++◌, map, append_assoc, append-nil, Memᴰ}
 use native.Mathlib.Omega.{arith}
-use lib.Bits.{and_zero_l}
 use lib.Dec.{ltb, eqb, lit<}
 use lib.ListN.{length, get_or, length-append, length-map}
 use Rattle.files.specs.Number.{limit, bytes_of_all}
@@ -35,41 +34,20 @@ use Rattle.documents.specs.Parts.{further}
 use Rattle.documents.proofs.Paths.{strictly_lt, strictly_trans, towards_strictly, towards_parent, towards_below, towards_unique, below_le}
 use Rattle.theory.specs.Parts.{child_for}
 use Rattle.theory.specs.Reachable.{Fits, reachable, subtree}
-use Rattle.theory.specs.Handed.{
-  Start,
-  ReachWords,
-  gather,
-  each_of,
-  only_if,
-  one_kids,
-  all_kids,
-  chain,
-  goal_rows,
-  path_order,
-  child_paths,
-  parts_on,
-  place_of,
-  number_of,
-  kids_on,
-  entry_on,
-  entries_on,
-  handed_entries,
-  handed_numbers,
-}
+use Rattle.theory.specs.Handed.{Start, ReachWords, gather, each_of, only_if, one_kids, all_kids, path_order, child_paths, parts_on, place_of, number_of, kids_on, entry_on, entries_on, handed_entries, handed_numbers}
 use Rattle.theory.proofs.HandedDocuments.{reachable_words}
-use Rattle.theory.proofs.HandedKids.{KidBy, alone}
+use Rattle.theory.proofs.HandedKids.{alone}
 use Rattle.theory.proofs.HandedNamed.{goals_of, kid_may_stand, all_named, kids_of_all, kids_of_one, row_named, top_small}
 use Rattle.theory.proofs.HandedOrder.{order_in_table, child_mem}
 use Rattle.theory.proofs.HandedRows.{Begins, one_part, all_part, row_small, one_kids_small, all_kids_small}
-use Rattle.theory.proofs.HandedWords.{has_none, gather_iff, Given}
+use Rattle.theory.proofs.HandedWords.{has_none, gather_iff}
 use Rattle.theory.proofs.Least.{passing_small}
 use Rattle.theory.proofs.Reachable.{subtree_iff}
 use Rattle.theory.proofs.Sizes.{parts_few, numbers_few}
 use Rattle.reachable.specs.Grow.{sheet_of}
 use Rattle.reachable.proofs.Sheets.{sheet_paths, sheet_sets, sheet_count, sheet_small}
 use Rattle.reachable.specs.Sheet.{row, above_at, below_at, child_at, slot_of}
-use Rattle.handed.specs.Goals.{one_in}
-use Rattle.handed.specs.Plan.{whole_in, all_for, order_in, planned}
+use Rattle.handed.specs.Plan.{all_for, planned}
 use Rattle.handed.specs.Emit.{first_in, number_in, one_number, kids_under, kid_paths, kid_count, kids_on_path, part_in, one_part_in, whole_part_in, parts_numbers}
 use Rattle.handed.specs.Writer.{start_of, document_in}
 use Rattle.handed.proofs.SetSums.{total, total_same, total_plus, total_length, total_bits, total_sizes, each_common}

@@ -1,5 +1,6 @@
 // The documents handed back: goals of parts, their numbers, and the bytes.
 #![tactic(auto)]
+
 pub mod document;
 mod emit;
 mod goals;

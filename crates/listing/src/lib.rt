@@ -1,3 +1,4 @@
 // The text that the verdict program prints, laid out in blocks.
 #![tactic(auto)]
+
 pub mod lay;

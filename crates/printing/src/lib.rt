@@ -1,5 +1,6 @@
 // The whole text that the verdict program prints for the bytes of a rule file.
 #![tactic(auto)]
+
 ghost use Rattle.printing.specs.Printing.{Decided, RulesToPrint, PrintsRules, Prints};
 
 use files::read::{Answer, read_rules};

@@ -1,5 +1,5 @@
 -- What the rows of rules hold: the rule list.
-use Prim.Native.Nat.{ℕ, zero, suc, ◌+◌, ◌*◌, ◌/◌, ◌%◌, ◌^◌, ◌≤◌, ◌<◌}
+use Prim.Native.Nat.{ℕ, zero, suc, ◌+◌, ◌*◌, ◌/◌, ◌%◌, ◌≤◌, ◌<◌}
 use mathlib.Core.Path.{◌≡◌, refl, ap, ap₂, subst, ◌∙◌}
 use mathlib.Core.List.{List, [], ◌∷◌}
 use native.Mathlib.Omega.{arith}
@@ -9,7 +9,7 @@ use lib.ListN.{get_or, set, length}
 use lib.Seq.{get_or-set_same, get_or-set_other}
 use Rattle.files.specs.Table.{Rule, Numbered, first, later}
 use Rattle.theory.specs.Parts.{RulesIn}
-use Rattle.reachable.specs.Sheet.{row, rule_row_at, rules_at, rule_word, rule_said, rules_from_row, lay_list}
+use Rattle.reachable.specs.Sheet.{rule_row_at, rules_at, rule_word, rule_said, rules_from_row, lay_list}
 use Rattle.reachable.proofs.Rows.{Sheet, sheet_set}
 use Rattle.reachable.proofs.Absences.{within_rest}
 

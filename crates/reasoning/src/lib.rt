@@ -1,4 +1,5 @@
 // The two calls: consistency and questions.
 #![tactic(auto)]
+
 pub mod consistency;
 pub mod question;

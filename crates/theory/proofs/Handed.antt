@@ -39,18 +39,7 @@ use Rattle.theory.specs.Handed.{
 use Rattle.theory.proofs.Reachable.{subtree_iff}
 use Rattle.theory.proofs.HandedKids.{KidBy, all, alone}
 use Rattle.theory.proofs.HandedRows.{Begins, one_part, all_part, row, KidGoal, of_all, of_one, all_kids_small, one_kids_small}
-use Rattle.theory.proofs.HandedNamed.{
-  one,
-  chain_iff,
-  NamedPart,
-  goals_of,
-  kid_may_stand,
-  all_named,
-  kids_of_all,
-  kids_of_one,
-  next_row,
-  row_named,
-}
+use Rattle.theory.proofs.HandedNamed.{chain_iff, NamedPart, goals_of, kid_may_stand, all_named, kids_of_all, kids_of_one, next_row, row_named}
 use Rattle.theory.proofs.HandedOrder.{
   beside,
   child_mem,

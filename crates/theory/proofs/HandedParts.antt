@@ -15,7 +15,6 @@ use Rattle.documents.proofs.Paths.{below_root, depth_below}
 use Rattle.theory.specs.Parts.{Part, RulesIn, part_zero}
 use Rattle.theory.specs.Order.{NumberedIn, Sorted, Several, Precedes, by_depth, by_path, by_several, by_goal}
 use Rattle.theory.specs.Handed.{Start, ReachWords, each_of, severalb, chain, goal_rows, path_order, place_of, number_of}
-use Rattle.theory.proofs.HandedKids.{all}
 use Rattle.theory.proofs.HandedRows.{Begins, row, row_small}
 use Rattle.theory.proofs.HandedNamed.{
   Found,

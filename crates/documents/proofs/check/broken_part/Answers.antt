@@ -1,7 +1,6 @@
 -- `documents::check::broken_part` meets its contract.
 use borrow.Author.Rules.{rules}
 use Rattle.documents.proofs.Judging.{along_laws}
-use Prim.Native.Nat.{◌-◌}
 use Rattle.documents.proofs.check.broken_part.Goals as goal
 
 pub loop-n-init : goal.loop-n-init

@@ -1,7 +1,6 @@
 -- `documents::check::broken_rule` meets its contract.
 use borrow.Author.Rules.{rules}
 use Rattle.documents.proofs.Judging.{rules_laws}
-use Prim.Native.Nat.{◌-◌}
 use Rattle.documents.proofs.check.broken_rule.Goals as goal
 
 pub loop-r-init : goal.loop-r-init

@@ -1,7 +1,6 @@
 -- `documents::document::read_parts` meets its contract.
 use borrow.Author.Rules.{rules}
 use Rattle.documents.proofs.PartLists.{parts_laws}
-use Prim.Native.Nat.{◌-◌}
 use Rattle.documents.proofs.document.read_parts.Goals as goal
 
 pub loop-n-init : goal.loop-n-init

@@ -1,7 +1,6 @@
 -- `evidence::choose::clash_row` meets its contract.
 use borrow.Author.Rules.{rules}
 use Rattle.evidence.proofs.Choosing.{row_laws, at_laws}
-use Prim.Native.Nat.{◌-◌}
 use Rattle.evidence.proofs.choose.clash_row.Goals as goal
 
 pub absences-n-requires : goal.absences-n-requires

@@ -1,7 +1,6 @@
 -- `evidence::choose::clashing` meets its contract.
 use borrow.Author.Rules.{rules}
 use Rattle.evidence.proofs.Choosing.{below_laws}
-use Prim.Native.Nat.{◌-◌}
 use Rattle.evidence.proofs.choose.clashing.Goals as goal
 
 pub absences-n-requires : goal.absences-n-requires

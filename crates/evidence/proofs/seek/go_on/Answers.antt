@@ -1,7 +1,6 @@
 -- `evidence::seek::go_on` meets its contract.
 use borrow.Author.Rules.{rules}
 use Rattle.evidence.proofs.Seeking.{codes_laws}
-use Prim.Native.Nat.{◌-◌}
 use Rattle.evidence.proofs.seek.go_on.Goals as goal
 
 pub loop-n-init : goal.loop-n-init

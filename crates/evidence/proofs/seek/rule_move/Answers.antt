@@ -1,7 +1,6 @@
 -- `evidence::seek::rule_move` meets its contract.
 use borrow.Author.Rules.{rules}
 use Rattle.evidence.proofs.Seeking.{move_laws}
-use Prim.Native.Nat.{◌-◌}
 use Rattle.evidence.proofs.seek.rule_move.Goals as goal
 
 pub rules-many-requires : goal.rules-many-requires

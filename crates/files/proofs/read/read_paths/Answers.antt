@@ -1,6 +1,5 @@
 -- `files::read::read_paths` meets its contract.
 use borrow.Author.Rules.{rules}
-use Prim.Native.Nat.{◌-◌}
 use Rattle.files.proofs.ReaderPaths.{paths_laws}
 use Rattle.files.proofs.read.read_paths.Goals as goal
 

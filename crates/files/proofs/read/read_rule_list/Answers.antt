@@ -1,6 +1,5 @@
 -- `files::read::read_rule_list` meets its contract.
 use borrow.Author.Rules.{rules}
-use Prim.Native.Nat.{◌-◌}
 use Rattle.files.proofs.ReaderRules.{rules_laws}
 use Rattle.files.proofs.read.read_rule_list.Goals as goal
 

@@ -1,6 +1,5 @@
 -- `files::read::repeats` meets its contract.
 use borrow.Author.Rules.{rules}
-use Prim.Native.Nat.{◌-◌}
 use Rattle.files.proofs.Reader.{repeats_laws}
 use Rattle.files.proofs.read.repeats.Goals as goal
 

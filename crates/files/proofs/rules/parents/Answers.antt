@@ -1,6 +1,5 @@
 -- `files::rules::parents` meets its contract.
 use borrow.Author.Rules.{rules}
-use Prim.Native.Nat.{◌-◌}
 use Rattle.files.proofs.Tables.{parents_laws}
 use Rattle.files.proofs.rules.parents.Goals as goal
 

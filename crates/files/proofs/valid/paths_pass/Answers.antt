@@ -1,6 +1,5 @@
 -- `files::valid::paths_pass` meets its contract: the depths are those of the paths so far, and what remains decides.
 use borrow.Author.Rules.{rules}
-use Prim.Native.Nat.{◌-◌}
 use Rattle.files.proofs.Tester.{pass_laws}
 use Rattle.files.proofs.valid.paths_pass.Goals as goal
 

@@ -1,6 +1,5 @@
 -- `files::valid::rules_pass` meets its contract: what remains decides.
 use borrow.Author.Rules.{rules}
-use Prim.Native.Nat.{◌-◌}
 use Rattle.files.proofs.Tester.{all_laws}
 use Rattle.files.proofs.valid.rules_pass.Goals as goal
 

@@ -1,6 +1,5 @@
 -- `files::write::collect_rules` meets its contract: what is stored and what remains is the whole.
 use borrow.Author.Rules.{rules}
-use Prim.Native.Nat.{◌-◌}
 use Rattle.files.proofs.Collect.{rules_laws}
 use Rattle.files.proofs.write.collect_rules.Goals as goal
 

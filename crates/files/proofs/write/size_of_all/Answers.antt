@@ -1,6 +1,5 @@
 -- `files::write::size_of_all` meets its contract: what is counted and what remains is the whole.
 use borrow.Author.Rules.{rules}
-use Prim.Native.Nat.{◌-◌}
 use Rattle.files.proofs.Stores.{all_laws}
 use Rattle.files.proofs.write.size_of_all.Goals as goal
 

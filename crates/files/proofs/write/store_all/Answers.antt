@@ -1,6 +1,5 @@
 -- `files::write::store_all` meets its contract: what is stored and what remains is the whole.
 use borrow.Author.Rules.{rules}
-use Prim.Native.Nat.{◌-◌}
 use Rattle.files.proofs.Stores.{all_laws}
 use Rattle.files.proofs.write.store_all.Goals as goal
 

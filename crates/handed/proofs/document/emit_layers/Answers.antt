@@ -1,6 +1,5 @@
 -- `handed::document::emit_layers` meets its contract: what is emitted and what remains is the whole.
 use borrow.Author.Rules.{rules}
-use Prim.Native.Nat.{◌-◌}
 use Rattle.handed.proofs.EmittingParts.{layers_laws}
 use Rattle.handed.proofs.document.emit_layers.Goals as goal
 

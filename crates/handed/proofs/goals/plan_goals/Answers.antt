@@ -1,6 +1,5 @@
 -- `handed::goals::plan_goals` meets its contract: what is planned and what remains is the whole.
 use borrow.Author.Rules.{rules}
-use Prim.Native.Nat.{◌-◌}
 use Rattle.handed.proofs.GoalWords.{paths_laws}
 use Rattle.handed.proofs.goals.plan_goals.Goals as goal
 

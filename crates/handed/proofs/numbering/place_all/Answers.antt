@@ -1,6 +1,5 @@
 -- `handed::numbering::place_all` meets its contract: what is numbered and what remains is the whole.
 use borrow.Author.Rules.{rules}
-use Prim.Native.Nat.{◌-◌}
 use Rattle.handed.proofs.Places.{order_laws}
 use Rattle.handed.proofs.numbering.place_all.Goals as goal
 

@@ -1,7 +1,5 @@
 -- `listing::lay::lay` meets its contract.
 use borrow.Author.Rules.{rules}
-use Prim.Native.Nat.{◌-◌}
-use lib.ListN
 use Rattle.listing.proofs.Laying.{lay_laws}
 use Rattle.listing.proofs.lay.lay.Goals as goal
 

@@ -1,6 +1,5 @@
 -- `listing::lay::put` meets its contract.
 use borrow.Author.Rules.{rules}
-use Prim.Native.Nat.{◌-◌}
 use Rattle.listing.proofs.Puts.{put_laws}
 use Rattle.listing.proofs.lay.put.Goals as goal
 

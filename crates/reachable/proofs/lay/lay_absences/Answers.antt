@@ -1,7 +1,6 @@
 -- `reachable::lay::lay_absences` meets its contract.
 use borrow.Author.Rules.{rules}
 use Rattle.reachable.proofs.Laying.{absences_laws}
-use Prim.Native.Nat.{◌-◌}
 use Rattle.reachable.proofs.lay.lay_absences.Goals as goal
 
 pub loop-r-init : goal.loop-r-init

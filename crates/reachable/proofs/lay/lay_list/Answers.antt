@@ -1,7 +1,6 @@
 -- `reachable::lay::lay_list` meets its contract.
 use borrow.Author.Rules.{rules}
 use Rattle.reachable.proofs.Laying.{list_laws}
-use Prim.Native.Nat.{◌-◌}
 use Rattle.reachable.proofs.lay.lay_list.Goals as goal
 
 pub loop-r-init : goal.loop-r-init

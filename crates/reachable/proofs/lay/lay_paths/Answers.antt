@@ -1,7 +1,6 @@
 -- `reachable::lay::lay_paths` meets its contract.
 use borrow.Author.Rules.{rules}
 use Rattle.reachable.proofs.Laying.{rows_laws}
-use Prim.Native.Nat.{◌-◌}
 use Rattle.reachable.proofs.lay.lay_paths.Goals as goal
 
 pub loop-x-init : goal.loop-x-init

@@ -1,7 +1,6 @@
 -- `reachable::lay::lay_rules` meets its contract.
 use borrow.Author.Rules.{rules}
 use Rattle.reachable.proofs.Laying.{rules_laws}
-use Prim.Native.Nat.{◌-◌}
 use Rattle.reachable.proofs.lay.lay_rules.Goals as goal
 
 pub loop-r-init : goal.loop-r-init

@@ -14,4 +14,5 @@ pub returns : goal.returns
 returns c =
     elim c.if-c-eq3.branch [
       | then-c-eq3+else-holds w ↦ (search (rules, counter_laws), search rules)
-      | else-c-eq3 w ↦ (search (rules, counter_laws), search rules) ]
+      | else-c-eq3 w ↦ (search (rules, counter_laws), search rules)
+    ]
