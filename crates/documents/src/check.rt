@@ -223,6 +223,9 @@ fn check_parts(rules: Rules, document: &[u8]) -> Checked
     }
 }
 
+// No document has more bytes.
+const LONGEST: usize = 65536;
+
 // Whether a document obeys the rules and holds the required paths.
 pub fn check_document(rules: Rules, document: &[u8]) -> Checked
     ensures { CheckDocument rules document.now result }
@@ -230,7 +233,7 @@ pub fn check_document(rules: Rules, document: &[u8]) -> Checked
     if !valid_table(rules) {
         return Checked::Refused(12, 0);
     }
-    if 65536 < document.len() {
+    if LONGEST < document.len() {
         return Checked::Refused(14, 0);
     }
     check_parts(rules, document)

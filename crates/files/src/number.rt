@@ -85,6 +85,7 @@ pub(crate) fn put_number(out: &mut [u8], at: usize, n: u32) -> usize
 }
 
 // The bytes of the number modulo the limit stored from `at` on, as far as the buffer goes.
+#[tactic(auto, using(crate::proofs::Stores::stored_laws))]
 pub fn store_number(out: &mut [u8], at: usize, n: u32)
     ensures { out.new ≡ sets out.old at (bytes_of (n % limit)) }
 {

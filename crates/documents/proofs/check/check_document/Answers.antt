@@ -9,8 +9,8 @@ use Rattle.documents.proofs.check.check_document.Goals as goal
 pub returns-then-not-valid_table : goal.returns-then-not-valid_table
 returns-then-not-valid_table c = checks _ _ _ (search rules) (λ i. omega (arith, c.type_inv.document i)) (search (rules, answer_laws))
 
-pub returns-then-document-gt65536 : goal.returns-then-document-gt65536
-returns-then-document-gt65536 c = checks _ _ _ (search rules) (λ i. omega (arith, c.type_inv.document i))
+pub returns-then-document-gt-LONGEST : goal.returns-then-document-gt-LONGEST
+returns-then-document-gt-LONGEST c = checks _ _ _ (search rules) (λ i. omega (arith, c.type_inv.document i))
     (search (rules, answer_laws))
 
 pub check_parts-requires : goal.check_parts-requires
