@@ -4,7 +4,7 @@ ghost use Rattle.std.specs.Prelude.{◌≤◌};
 use crate::build::{put_file, put_parts};
 use crate::calls::{CONSISTENT, Call, Outcome, ROOM, answered, refused, run, told};
 use crate::examples::reading_of;
-use crate::handed::{OBEYS, judged};
+use crate::handed_back::{OBEYS, judged};
 use crate::marks::{mark, unmarked};
 use crate::refusals::checking_of;
 use crate::rounds::{read_and_write, there_and_back};

@@ -5,7 +5,7 @@ mod build;
 mod calls;
 mod examples;
 mod families;
-mod handed;
+mod handed_back;
 mod judge;
 mod least;
 mod limits;

@@ -1,6 +1,6 @@
 // Random sets tried: the verdict and every question against the search, every document checked, every evidence replayed.
 use crate::calls::{CONSISTENT, Call, DENIED, INCONSISTENT, ROOM, YES, ask_again, run};
-use crate::handed::{BROKEN, OBEYS, by_rules, judged};
+use crate::handed_back::{BROKEN, OBEYS, by_rules, judged};
 use crate::judge::{broken_parts, lacking};
 use crate::least::deaths_of;
 use crate::marks::mark;
