@@ -3,13 +3,15 @@
 # say WORDS: to standard error
 say() { echo "$(basename "$0"): $*" >&2; }
 
-# quietly WORDS: runs a command in the repository's folder, and shows what it said only where it fails
+# quietly FOLDER WORDS: runs a command in a folder of the repository, and shows what it said only where it fails
 quietly() {
+    folder=$here/$1
+    shift
     say "$* (once)"
-    mkdir -p "$here/target/tests"
-    if ! (cd "$here" && "$@") >"$here/target/tests/build.log" 2>&1; then
-        tail -n 20 "$here/target/tests/build.log" >&2
-        say "failed; target/tests/build.log has all that it said"
+    mkdir -p "$here/build/tests"
+    if ! (cd "$folder" && "$@") >"$here/build/tests/build.log" 2>&1 </dev/null; then
+        tail -n 20 "$here/build/tests/build.log" >&2
+        say "failed; build/tests/build.log has all that it said"
         exit 2
     fi
 }
@@ -27,15 +29,18 @@ build() {
         say "the archive links into x86-64 programs only"
         exit 2
     fi
-    archive=$here/target/staticlib/libentry.a
-    program=$here/target/bin/verdict
-    driver=$here/target/tests/$1
-    if older "$archive" "$here"/crates/*/src; then quietly rt staticlib entry; fi
+    archive=$here/crates/entry/out/libentry.a
+    program=$here/crates/verdict/out/verdict
+    driver=$here/build/tests/$1
+    if older "$archive" "$here"/crates/*/src; then
+        quietly crates/entry rt lib
+        touch "$archive"
+    fi
     if older "$program" "$here"/crates/*/src; then
-        quietly rt check verdict
+        quietly crates/verdict rt run
         touch "$program"
     fi
     if older "$driver" "$here/tests/$1.rs" "$here/tests/calls.rs" "$here/tests/entry.rs" "$archive"; then
-        quietly rustc --edition 2021 -O -L "$here/target/staticlib" -o "$driver" "$here/tests/$1.rs"
+        quietly . rustc --edition 2021 -O -L "$here/crates/entry/out" -o "$driver" "$here/tests/$1.rs"
     fi
 }
