@@ -20,6 +20,15 @@ KEPT = {"ℕ"}
 # Lemmas that port.py had already given the name of a definition.
 LEMMAS = ("above_at", "all_in", "asked_in", "below_all", "left_in", "root_in", "row_next")
 
+# Constructors and fields of specs/, which are no lemmas.
+OTHERS = {
+    "all-paths": "every_path",
+    "all-required": "every_required",
+    "no-rules": "without_rules",
+    "not-above": "not_above",
+    "one-path": "one_path",
+}
+
 
 def files(suffix):
     for folder, dirs, names in os.walk("crates"):
@@ -108,6 +117,7 @@ def main():
     for name in LEMMAS:
         if name in taken:
             names[name] = name + "_lem"
+    names.update({k: v for k, v in OTHERS.items() if k in names})
     for p, t in texts.items():
         if p.endswith(".antt") and not of_function(p):
             inside = False
