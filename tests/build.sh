@@ -29,18 +29,18 @@ build() {
         say "the archive links into x86-64 programs only"
         exit 2
     fi
-    archive=$here/crates/entry/out/libentry.a
+    archive=$here/build/libentry.a
     program=$here/crates/verdict/out/verdict
     driver=$here/build/tests/$1
     if older "$archive" "$here"/crates/*/src; then
-        quietly crates/entry rt lib
-        touch "$archive"
+        quietly crates/entry_c rt lib
+        cp "$here/crates/entry_c/out/libentry_c.a" "$archive" || exit 2
     fi
     if older "$program" "$here"/crates/*/src; then
         quietly crates/verdict rt run
         touch "$program"
     fi
     if older "$driver" "$here/tests/$1.rs" "$here/tests/calls.rs" "$here/tests/entry.rs" "$archive"; then
-        quietly . rustc --edition 2021 -O -L "$here/crates/entry/out" -o "$driver" "$here/tests/$1.rs"
+        quietly . rustc --edition 2021 -O -L "$here/build" -o "$driver" "$here/tests/$1.rs"
     fi
 }

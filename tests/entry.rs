@@ -1,4 +1,4 @@
-// The functions that the archive of the crate `entry` exports, for programs in Rust: a slice is a pointer and a length.
+// The functions that the archive of the calls over bytes (crate `entry_c`) exports, for programs in Rust: a slice is a pointer and a length.
 #[link(name = "entry", kind = "static")]
 extern "C" {
     pub fn bozdurmek_rewrite(rules: *const u8, rules_len: usize, out: *mut u8, out_len: usize, answer: *mut [usize; 3]);

@@ -20,13 +20,15 @@ KEPT = {"ℕ"}
 # Lemmas that port.py had already given the name of a definition.
 LEMMAS = ("above_at", "all_in", "asked_in", "below_all", "left_in", "root_in", "row_next")
 
-# Constructors and fields of specs/, which are no lemmas.
+# Constructors, fields and values, which are no lemmas.
 OTHERS = {
     "all-paths": "every_path",
     "all-required": "every_required",
     "no-rules": "without_rules",
     "not-above": "not_above",
     "one-path": "one_path",
+    "set-of": "set_of",
+    "start-sets": "sets_at_start",
 }
 
 

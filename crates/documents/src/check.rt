@@ -223,7 +223,7 @@ fn check_parts(rules: Rules, document: &[u8]) -> Checked
     }
 }
 
-// No document has more bytes.
+// A document of more bytes is refused with 14.
 const LONGEST: usize = 65536;
 
 // Whether a document obeys the rules and holds the required paths.

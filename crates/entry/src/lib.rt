@@ -1,5 +1,5 @@
-// The calls over bytes, for programs in C and Rust. Each takes the bytes of a rule file, lays its answer in three numbers
-// and, where it writes, puts its bytes into the lent buffer.
+// The calls over bytes; `entry_c` exports them to programs in C and Rust. Each takes the bytes of a rule file, lays its answer
+// in three numbers and, where it writes, puts its bytes into the lent buffer.
 #![tactic(auto)]
 
 ghost use Rattle.entry.specs.Calls.{Rewrites, Checks, Decides, Asks};
@@ -14,8 +14,7 @@ use reasoning::question::ask;
 mod numbers;
 
 // Reads a rule file and writes it again: 1 and the length, or the refusal.
-#[unsafe(no_mangle)]
-pub extern "C" fn bozdurmek_rewrite(rules: &[u8], out: &mut [u8], answer: &mut [usize; 3])
+pub fn bozdurmek_rewrite(rules: &[u8], out: &mut [u8], answer: &mut [usize; 3])
     ensures { Rewrites rules.now out.old answer.new out.new }
 {
     let reading = read_rules(rules);
@@ -28,8 +27,7 @@ pub extern "C" fn bozdurmek_rewrite(rules: &[u8], out: &mut [u8], answer: &mut [
 
 // Checks a document by a rule file: 1 obeys, 2 with the least broken rule and the least part, 3 with the least required path
 // missing, or the refusal.
-#[unsafe(no_mangle)]
-pub extern "C" fn bozdurmek_check(rules: &[u8], document: &[u8], answer: &mut [usize; 3])
+pub fn bozdurmek_check(rules: &[u8], document: &[u8], answer: &mut [usize; 3])
     ensures { Checks rules.now document.now answer.new }
 {
     let reading = read_rules(rules);
@@ -41,8 +39,7 @@ pub extern "C" fn bozdurmek_check(rules: &[u8], document: &[u8], answer: &mut [u
 }
 
 // Decides whether a rule file is consistent: 1 and the witness's length, 2 and the evidence's, or the refusal.
-#[unsafe(no_mangle)]
-pub extern "C" fn bozdurmek_consistency(rules: &[u8], out: &mut [u8], answer: &mut [usize; 3])
+pub fn bozdurmek_consistency(rules: &[u8], out: &mut [u8], answer: &mut [usize; 3])
     ensures { Decides rules.now out.old answer.new out.new }
 {
     let reading = read_rules(rules);
@@ -54,8 +51,7 @@ pub extern "C" fn bozdurmek_consistency(rules: &[u8], out: &mut [u8], answer: &m
 }
 
 // Asks a rule file a question: 1 yes and the evidence's length, 2 no and the counter-document's, or the refusal.
-#[unsafe(no_mangle)]
-pub extern "C" fn bozdurmek_ask(
+pub fn bozdurmek_ask(
     rules: &[u8],
     kind: usize,
     left: usize,

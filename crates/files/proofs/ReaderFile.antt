@@ -93,34 +93,34 @@ rules_many count s many at rs next e =
 
 module _ (s : List ℕ) (at many count : ℕ) (parent label : List ℕ) (required root : ℕ) (ps : List Path) (req : List ℕ)
     (paths : PathsIn count parent label root ps) (set : required ≡ add_all 0 req) where
-  set_of_lem : List Rule → RuleSet
-  set_of_lem rs = record { root = root; paths = ps; required = req; rules = rs }
+  set_of : List Rule → RuleSet
+  set_of rs = record { root = root; paths = ps; required = req; rules = rs }
 
   -- the format of the rules, with the count as the code has it
-  to_end : (r : Reading) → r ≡ reading_of (at_end (length s) (run (and_then (more_rules count many []) (λ rs. done (set_of_lem rs))) at (drop at s)))
+  to_end : (r : Reading) → r ≡ reading_of (at_end (length s) (run (and_then (more_rules count many []) (λ rs. done (set_of rs))) at (drop at s)))
       → r ≡ reading_of (at_end (length s) (run (rules_to_end root ps req many) at (drop at s)))
-  unfolding rules_to_end set_of_lem
+  unfolding rules_to_end set_of
   to_end r h =
-      h ∙ ap (λ (n : ℕ). reading_of (at_end (length s) (run (and_then (more_rules n many []) (λ rs. done (set_of_lem rs))) at (drop at s)))) (sym paths.many)
+      h ∙ ap (λ (n : ℕ). reading_of (at_end (length s) (run (and_then (more_rules n many []) (λ rs. done (set_of rs))) at (drop at s)))) (sym paths.many)
 
   module _ (list : RuleList) (e : list ≡ rule_list_answer (run (more_rules count many []) at (drop at s))) (r : Reading) where
     pub to_end_refused : {k place : ℕ} → list.end ≡ Section.Refused k place → r ≡ reading_of (refused k place)
         → r ≡ reading_of (at_end (length s) (run (rules_to_end root ps req many) at (drop at s)))
     to_end_refused {k} {place} f h =
-        to_end r (then_refused (more_rules count many []) (λ rs. done (set_of_lem rs)) s at r (rules_refused _ list k place e f) h)
+        to_end r (then_refused (more_rules count many []) (λ rs. done (set_of rs)) s at r (rules_refused _ list k place e f) h)
 
     pub to_end_read : {next : ℕ} (n : ℕ) → n ≡ count → many ≤ 256 → list.end ≡ Section.Read next
         → ((q : RuleSet) → ◌≡◌ {A = Rules} (record { paths = n; parent = parent; label = label; required = required; rules = many; kind = list.kind; left = list.left; right = list.right }) (table_of q)
         → r ≡ reading_of (at_end (length s) (got q next)))
         → r ≡ reading_of (at_end (length s) (run (rules_to_end root ps req many) at (drop at s)))
-    unfolding table_of set_of_lem run
+    unfolding table_of set_of run
     to_end_read {next} n same most f h =
         let g : RulesGot (run (more_rules count many []) at (drop at s)) list next = rules_got _ list next e f in
         let all : n ≡ 1 + length ps = same ∙ sym paths.many in
         let have : many ≡ length g.rs = sym (rules_many count s many at g.rs next g.is) in
         to_end r
-        (then_got (more_rules count many []) (λ rs. done (set_of_lem rs)) s at r g.is
-        (h (set_of_lem g.rs)
+        (then_got (more_rules count many []) (λ rs. done (set_of rs)) s at r g.is
+        (h (set_of g.rs)
         (λ i. record { paths = all i; parent = paths.in_parent i; label = paths.in_label i; required = set i; rules = have i; kind = g.in_kind i; left = g.in_left i; right = g.in_right i })))
 
 pub ruleset end_laws = (to_end_refused, to_end_read)

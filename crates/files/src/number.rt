@@ -29,6 +29,7 @@ pub fn wide_number(n: u32) -> usize
 }
 
 // The second byte `high` of a number after the first, `low`, which says that another follows.
+#[tactic(auto, using(crate::proofs::Numbers::two_laws))]
 fn second(low: u32, high: u32) -> Number
     requires { high < 256 }
     ensures { result ≡ two_bytes low high }

@@ -100,12 +100,12 @@ module _ (a s : ℕ) where
     each_common = each_from 64 0
 
 -- a set whose members are each in exactly one of several sets
-pub total_sizes : (set_of_lem : ℕ → ℕ) (l : List ℕ) (w : ℕ) → ((x : ℕ) → Memᴰ x (members w) → total (λ k. bit (set_of_lem k) x) l ≡ 1)
-    → total (λ k. size (common w (set_of_lem k))) l ≡ size w
+pub total_sizes : (set_of : ℕ → ℕ) (l : List ℕ) (w : ℕ) → ((x : ℕ) → Memᴰ x (members w) → total (λ k. bit (set_of k) x) l ≡ 1)
+    → total (λ k. size (common w (set_of k))) l ≡ size w
 unfolding common
-total_sizes set_of_lem l w one =
-    total_same (λ k. size (common w (set_of_lem k))) (λ k. total (bit (set_of_lem k)) (members w)) l
-    (λ k m. ap size (and_comm w (set_of_lem k)) ∙ sym (total_bits (set_of_lem k) w))
-    ∙ total_swap (λ k x. bit (set_of_lem k) x) l (members w)
-    ∙ total_same (λ x. total (λ k. bit (set_of_lem k) x) l) (λ x. 1) (members w) one
+total_sizes set_of l w one =
+    total_same (λ k. size (common w (set_of k))) (λ k. total (bit (set_of k)) (members w)) l
+    (λ k m. ap size (and_comm w (set_of k)) ∙ sym (total_bits (set_of k) w))
+    ∙ total_swap (λ k x. bit (set_of k) x) l (members w)
+    ∙ total_same (λ x. total (λ k. bit (set_of k) x) l) (λ x. 1) (members w) one
     ∙ total_ones (members w) ∙ sym (size_members w)
