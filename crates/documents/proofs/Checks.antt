@@ -1,22 +1,20 @@
 -- Laws of checking a document as a whole: refusal 12, then 14, then the file's, then the verdict.
-use Prim.Native.Nat.{ℕ, zero, suc, ◌+◌, ◌%◌, ◌<◌, ◌≤◌}
-use mathlib.Core.Path.{◌≡◌, refl, sym, ap, ap₂, subst, ◌∙◌}
+use Prim.Native.Nat.{ℕ, zero, suc, ◌+◌, ◌<◌, ◌≤◌}
+use mathlib.Core.Path.{◌≡◌, sym, ap, subst, ◌∙◌}
 use mathlib.Core.Bool.{Bool, true, false, not}
 use mathlib.Core.List.{List, Memᴰ}
 use native.Mathlib.Omega.{arith}
 use lib.ListN.{length, get_or}
 use borrow.Author.Tests.{lt-ltb, le-ltb, not-true, not-false}
 use Rattle.files.specs.declared.rules.Rules.{Rules}
-use Rattle.files.specs.Format.{Outcome, got, refused, run_all}
+use Rattle.files.specs.Format.{refused, run_all}
 use Rattle.files.specs.Rules.{rules_of, parents_in}
 use Rattle.files.specs.Table.{parent_in}
 use Rattle.files.specs.TableTest.{table_passes}
-use Rattle.documents.specs.declared.check.Checked.{Checked}
-use Rattle.documents.specs.declared.check.Checked.TheVariants.{Refused}
-use Rattle.documents.specs.declared.document.Listed.{Listed}
+use Rattle.documents.specs.Answers.{Checked, Refused}
+use Rattle.documents.specs.declared.document.Parts.{Parts}
 use Rattle.documents.specs.PartList.{part_limit, Entry, entry_path, entry_kids, document_file}
-use Rattle.documents.specs.Reading.{parent_at, kids_at, entries_from, DocumentAnswer}
-use Rattle.documents.specs.Reading.DocumentAnswer.{read, stopped}
+use Rattle.documents.specs.Reading.{parent_at, kids_at, entries_from, DocumentIs}
 use Rattle.documents.specs.Checking.{held, broken_from, verdict, judged, check_answer}
 use Rattle.documents.specs.Held.{Laid}
 use Rattle.documents.proofs.Climbing.{parents_is}
@@ -41,102 +39,68 @@ entries_kids s path place n (suc k) (suc i) h =
 
 -- ---- the parts that were read, judged
 
-module _ (t : Rules) (s : List ℕ) (parent : List ℕ) (few : t.paths ≤ 64) (parents : parent ≡ parents_in t.parent t.paths)
-    (path place : List ℕ) (r : Listed)
-    (a : DocumentAnswer s path place (run_all (document_file (parent_at parent) (t.paths % 256)) s) r) where
+module _ (t : Rules) (s : List ℕ) (parent : List ℕ) (few : t.paths ≤ 64) (parents : parent ≡ parents_in t.parent t.paths) where
   -- the document's format, in the words of the code and of the table
-  file_is : run_all (document_file (parent_at parent) (t.paths % 256)) s ≡ run_all (document_file (parent_in (rules_of t).paths) t.paths) s
+  file_is : run_all (document_file (parent_at parent) t.paths) s ≡ run_all (document_file (parent_in (rules_of t).paths) t.paths) s
   unfolding rules_of
-  file_is =
-      let e : t.paths % 256 ≡ t.paths = omega arith in
-      ap₂ (λ (p : ℕ → ℕ) (n : ℕ). run_all (document_file p n) s) (parents_is t.parent t.label t.paths parent few parents) e
+  file_is = ap (λ (p : ℕ → ℕ). run_all (document_file p t.paths) s) (parents_is t.parent t.label t.paths parent few parents)
 
-  pub check_refused : {k at : ℕ} → r ≡ Listed.Refused k at
+  pub check_refused : {k at : ℕ} → run_all (document_file (parent_at parent) t.paths) s ≡ refused k at
       → Refused k at ≡ judged (parent_in (rules_of t).paths) (rules_of t).rules t.required
       (run_all (document_file (parent_in (rules_of t).paths) t.paths) s)
   unfolding judged
-  check_refused {k} {at} f = ap (judged (parent_in (rules_of t).paths) (rules_of t).rules t.required) (sym (sym file_is ∙ by a f))
-    where
-      by : {o : Outcome (List Entry)} {q : Listed} → DocumentAnswer s path place o q → q ≡ Listed.Refused k at → o ≡ refused k at
-      by (read e some most) g = absurd (let z : ◌≡◌ {A = ℕ} 0 1 = cc in omega arith)
-      by (stopped {k = j} {at = b}) g =
-          let x : j ≡ k = cc in
-          let y : b ≡ at = cc in
-          ap₂ refused x y
+  check_refused e = ap (judged (parent_in (rules_of t).paths) (rules_of t).rules t.required) (sym (sym file_is ∙ e))
 
-  module _ {count : ℕ} (f : r ≡ Listed.Parts count) where
+  module _ (parts : Parts) (is : DocumentIs s (run_all (document_file (parent_at parent) t.paths) s) parts) where
     -- the parts that the arrays have
     es : List Entry
-    es = entries_from s path place 0 count
+    es = entries_from s parts.path parts.place 0 parts.count
 
-    record Taken : Type 0 where
-      after : ℕ
-      is : run_all (document_file (parent_at parent) (t.paths % 256)) s ≡ got es after
-      some : 1 ≤ count
-      most : count ≤ part_limit
+    pub check_some : 1 ≤ parts.count
+    check_some = is.some
 
-    taken : Taken
-    unfolding es
-    taken = by a f refl
-      where
-        by : {o : Outcome (List Entry)} {q : Listed} → DocumentAnswer s path place o q → q ≡ Listed.Parts count
-            → run_all (document_file (parent_at parent) (t.paths % 256)) s ≡ o → Taken
-        by (read {es = ps} {next = m} {parts = n} e some most) g o =
-            let x : n ≡ count = cc in
-            record {
-              after = m;
-              is = o ∙ ap (λ (l : List Entry). got l m) (sym e ∙ ap (entries_from s path place 0) x);
-              some = omega arith;
-              most = omega arith;
-            }
-        by stopped g o = absurd (let z : ◌≡◌ {A = ℕ} 0 1 = cc in omega arith)
+    pub check_most : parts.count ≤ part_limit
+    check_most = is.most
 
-    pub check_some : 1 ≤ count
-    check_some = taken.some
-
-    pub check_most : count ≤ part_limit
-    check_most = taken.most
-
-    pub check_laid : ((i : ℕ) → get_or s i 0 < 256) → Laid s path place count
+    pub check_laid : ((i : ℕ) → get_or s i 0 < 256) → Laid s parts.path parts.place parts.count
     unfolding es
     check_laid bytes =
         record {
           small = λ i h.
-              subst (λ (x : ℕ). x < 64) (entries_path s path place 0 count i h ∙ ap (λ (m : ℕ). get_or path m 0) (zeroed i))
-              (small (parent_at parent) (t.paths % 256) table es good i (omega (arith, long)));
+              subst (λ (x : ℕ). x < 64) (entries_path s parts.path parts.place 0 parts.count i h ∙ ap (λ (m : ℕ). get_or parts.path m 0) (zeroed i))
+              (small (parent_at parent) t.paths few es good i (omega (arith, long)));
           later = λ i k h m.
               let n : Memᴰ k (entry_kids es i) =
               subst (λ (l : List ℕ). Memᴰ k l)
-              (sym (entries_kids s path place 0 count i h ∙ ap (λ (m : ℕ). kids_at s (get_or place m 0)) (zeroed i))) m in (
-                above (parent_at parent) (t.paths % 256) table es good i k (omega (arith, long)) n,
-                omega (arith, long, inside (parent_at parent) (t.paths % 256) table es good i k (omega (arith, long)) n),
+              (sym (entries_kids s parts.path parts.place 0 parts.count i h ∙ ap (λ (m : ℕ). kids_at s (get_or parts.place m 0)) (zeroed i))) m in (
+                above (parent_at parent) t.paths few es good i k (omega (arith, long)) n,
+                omega (arith, long, inside (parent_at parent) t.paths few es good i k (omega (arith, long)) n),
               );
         }
       where
         zeroed : (i : ℕ) → 0 + i ≡ i
         zeroed i = omega arith
 
-        long : length es ≡ count
-        long = entries_length s path place 0 count
+        long : length es ≡ parts.count
+        long = entries_length s parts.path parts.place 0 parts.count
 
-        table : t.paths % 256 ≤ 64
-        table = omega arith
-
-        good : Good (parent_at parent) (t.paths % 256) table es
-        good = read_good (parent_at parent) (t.paths % 256) table es s (record { below = bytes }) taken.after taken.is
+        good : Good (parent_at parent) t.paths few es
+        good = read_good (parent_at parent) t.paths few es s (record { below = bytes }) is.after is.answer
 
     pub check_is : (q : Checked)
-        → q ≡ verdict t.required (get_or (held (entries_from s path place 0 count)) 0 0)
-        (broken_from (parent_at parent) 0 (rules_of t).rules (entries_from s path place 0 count) (held (entries_from s path place 0 count)))
+        → q ≡ verdict t.required (get_or (held (entries_from s parts.path parts.place 0 parts.count)) 0 0)
+        (broken_from (parent_at parent) 0 (rules_of t).rules (entries_from s parts.path parts.place 0 parts.count)
+        (held (entries_from s parts.path parts.place 0 parts.count)))
         → q ≡ judged (parent_in (rules_of t).paths) (rules_of t).rules t.required
         (run_all (document_file (parent_in (rules_of t).paths) t.paths) s)
     unfolding judged es rules_of
     check_is q g =
         g
-        ∙ ap (λ (p : ℕ → ℕ). verdict t.required (get_or (held (entries_from s path place 0 count)) 0 0)
-        (broken_from p 0 (rules_of t).rules (entries_from s path place 0 count) (held (entries_from s path place 0 count))))
+        ∙ ap (λ (p : ℕ → ℕ). verdict t.required (get_or (held (entries_from s parts.path parts.place 0 parts.count)) 0 0)
+        (broken_from p 0 (rules_of t).rules (entries_from s parts.path parts.place 0 parts.count)
+        (held (entries_from s parts.path parts.place 0 parts.count))))
         (parents_is t.parent t.label t.paths parent few parents)
-        ∙ ap (judged (parent_in (rules_of t).paths) (rules_of t).rules t.required) (sym taken.is ∙ file_is)
+        ∙ ap (judged (parent_in (rules_of t).paths) (rules_of t).rules t.required) (sym is.answer ∙ file_is)
 
 pub ruleset parts_laws = (check_refused, check_some, check_most, check_laid, check_is)
 

@@ -55,25 +55,28 @@ module _ (parent : ℕ → ℕ) (fuel a b : ℕ) where
   unfolding meet
   climb_left n h = rw (ne_eqb a b n, le-ltb a b h, meet) refl
 
-module _ (parent : ℕ → ℕ) (left a b w : ℕ) (inv : meet parent left a b ≡ w) where
-  pub meet_end : left ≤ 0 → a ≡ w
-  unfolding meet
-  meet_end h = let e : left ≡ 0 = omega arith in rw e at inv
+pub meet_start : (parent : ℕ → ℕ) (fuel a b : ℕ) → meet parent (fuel - 0) a b ≡ meet parent fuel a b
+meet_start parent fuel a b = let e : fuel - 0 ≡ fuel = omega arith in ap (λ (k : ℕ). meet parent k a b) e
 
-  module _ (more : 0 < left) where
-    step : meet parent (suc (left - 1)) a b ≡ w
-    step = let e : suc (left - 1) ≡ left = omega arith in ap (λ (k : ℕ). meet parent k a b) e ∙ inv
+module _ (parent : ℕ → ℕ) (fuel n a b w : ℕ) (inv : meet parent (fuel - n) a b ≡ w) where
+  pub meet_end : fuel ≤ n → a ≡ w
+  unfolding meet
+  meet_end h = let e : fuel - n ≡ 0 = omega arith in rw e at inv
+
+  module _ (more : n < fuel) where
+    step : meet parent (suc (fuel - (n + 1))) a b ≡ w
+    step = let e : suc (fuel - (n + 1)) ≡ fuel - n = omega arith in ap (λ (k : ℕ). meet parent k a b) e ∙ inv
 
     pub meet_same : a ≡ b → a ≡ w
-    meet_same e = sym (climb_same parent (left - 1) a b e) ∙ step
+    meet_same e = sym (climb_same parent (fuel - (n + 1)) a b e) ∙ step
 
-    pub meet_right : (r : ℕ) → (a ≡ b → ⊥) → a < b → r ≡ parent b → meet parent (left - 1) a r ≡ w
-    meet_right r n h e = ap (meet parent (left - 1) a) e ∙ sym (climb_right parent (left - 1) a b n h) ∙ step
+    pub meet_right : (r : ℕ) → (a ≡ b → ⊥) → a < b → r ≡ parent b → meet parent (fuel - (n + 1)) a r ≡ w
+    meet_right r n' h e = ap (meet parent (fuel - (n + 1)) a) e ∙ sym (climb_right parent (fuel - (n + 1)) a b n' h) ∙ step
 
-    pub meet_left : (r : ℕ) → (a ≡ b → ⊥) → b ≤ a → r ≡ parent a → meet parent (left - 1) r b ≡ w
-    meet_left r n h e = ap (λ (z : ℕ). meet parent (left - 1) z b) e ∙ sym (climb_left parent (left - 1) a b n h) ∙ step
+    pub meet_left : (r : ℕ) → (a ≡ b → ⊥) → b ≤ a → r ≡ parent a → meet parent (fuel - (n + 1)) r b ≡ w
+    meet_left r n' h e = ap (λ (z : ℕ). meet parent (fuel - (n + 1)) z b) e ∙ sym (climb_left parent (fuel - (n + 1)) a b n' h) ∙ step
 
-pub ruleset meet_laws = (meet_same, meet_right, meet_left, meet_end)
+pub ruleset meet_laws = (meet_start, meet_same, meet_right, meet_left, meet_end)
 
 pub context_is : (parent : ℕ → ℕ) (p q a b r : ℕ) → a ≡ p → b ≡ q → r ≡ meet parent (a + b) p q → r ≡ context_of parent p q
 unfolding context_of

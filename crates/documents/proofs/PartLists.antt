@@ -1,32 +1,28 @@
 -- Laws of the part-list reader's loop over the parts, and of a document to the end of its bytes.
-use Prim.Native.Nat.{ℕ, ◌*◌, zero, suc, ◌+◌, ◌-◌, ◌%◌, ◌<◌, ◌≤◌}
+use Prim.Native.Nat.{ℕ, zero, suc, ◌+◌, ◌<◌, ◌≤◌}
 use mathlib.Core.Path.{◌≡◌, refl, sym, ap, ap₂, subst, ◌∙◌}
 use mathlib.Core.Bool.{Bool, true, false, cond}
 use mathlib.Core.List.{List, [], ◌∷◌, ◌++◌}
 use native.Mathlib.Omega.{arith}
 use lib.ListN.{length, get_or, set, drop, replicate, length-set}
 use lib.Seq.{get_or-set_same, get_or-set_other}
-use lib.Dec.{ltb}
-use borrow.Author.Tests.{lt-ltb, le-ltb}
-use Rattle.files.specs.declared.number.Number.{Number}
-use Rattle.files.specs.declared.number.Number.TheVariants.{Is, Refused}
-use Rattle.files.specs.Number.{number_in}
+use Rattle.std.specs.Prelude.{Result, Ok, Err, MatchResult}
+use Rattle.files.specs.declared.refusal.Condition.{Condition}
+use Rattle.files.specs.declared.reader.Reader.{Reader}
+use Rattle.files.specs.declared.refusal.Refusal.{Refusal}
 use Rattle.files.specs.Rules.{add_all}
 use Rattle.files.specs.Sets.{with_path}
-use Rattle.files.specs.Format.{Format, want, Outcome, run, run_all, at_end, got, refused}
+use Rattle.files.specs.Format.{Format, done, want, and_then, run, run_all, got, refused}
+use Rattle.files.specs.Refusals.{condition_number}
+use Rattle.files.specs.Readers.{Same, Reads}
 use Rattle.files.specs.RuleFile.{between}
-use Rattle.files.specs.Reading.{tested}
-use Rattle.files.proofs.Formats.{onward, run_then, list_many}
+use Rattle.files.proofs.Formats.{list_many}
 use Rattle.files.proofs.Padded.{zeros_get}
-use Rattle.files.proofs.ReaderRules.{run_refused, run_taken, between_taken, add_snoc}
-use Rattle.documents.specs.declared.document.Section.{Section}
+use Rattle.files.proofs.Readers.{SoFar, so_start, so_out, so_next, so_end, wants_out, wants_then, whole_left, whole_is}
 use Rattle.documents.specs.declared.document.OnePart.{OnePart}
-use Rattle.documents.specs.declared.document.Listed.{Listed}
+use Rattle.documents.specs.declared.document.Parts.{Parts}
 use Rattle.documents.specs.PartList.{part_limit, Entry, listed, namers, part_at, one_part, more_parts, document_file}
-use Rattle.documents.specs.Reading.{kids_at, entries_from, Marked, PartAnswer, PartsAnswer, listed_answer, DocumentAnswer}
-use Rattle.documents.specs.Reading.PartAnswer.{read as part-read, stopped as part-stopped}
-use Rattle.documents.specs.Reading.PartsAnswer.{read as parts-read, stopped as parts-stopped}
-use Rattle.documents.specs.Reading.DocumentAnswer.{read as document_read, stopped as document-stopped}
+use Rattle.documents.specs.Reading.{kids_at, entries_from, PartIs, PartsAre, DocumentIs}
 
 -- ---- the parts that the arrays have
 
@@ -89,6 +85,11 @@ namers_snoc m (x ∷ es) e = by (listed m x.kids) (namers_snoc m es e)
     by true ih = ap (λ (l : List ℕ). x.path ∷ l) ih
     by false ih = ih
 
+add_snoc : (w : ℕ) (xs : List ℕ) (x : ℕ) → add_all w (xs ++ (x ∷ [])) ≡ with_path (add_all w xs) x
+unfolding add_all
+add_snoc w [] x = refl
+add_snoc w (y ∷ xs) x = add_snoc (with_path w y) xs x
+
 set_more : (m : ℕ) (es : List Entry) (p : ℕ) (ks : List ℕ) → add_all 0 (namers m (es ++ (record { path = p; kids = ks } ∷ [])))
     ≡ cond (listed m ks) (with_path (add_all 0 (namers m es)) p) (add_all 0 (namers m es))
 set_more m es p ks = ap (add_all 0) (namers_snoc m es (record { path = p; kids = ks })) ∙ by (listed m ks)
@@ -103,135 +104,85 @@ set_more m es p ks = ap (add_all 0) (namers_snoc m es (record { path = p; kids =
 
 -- ---- so many parts
 
--- the parts so far are in the arrays, with the sets of their namers' paths, and reading goes on at `next`
-pub record PartsSoFar (s : List ℕ) (parent : ℕ → ℕ) (count size at : ℕ) (path place sets : List ℕ) (next n : ℕ) : Type 0 where
-  pub most : n ≤ size
+parts_none : (parent : ℕ → ℕ) (count size : ℕ) (l : List Entry) → more_parts parent count size 0 l ≡ done l
+unfolding more_parts
+parts_none parent count size l = refl
+
+parts_some : (parent : ℕ → ℕ) (count size k : ℕ) (l : List Entry)
+    → more_parts parent count size (suc k) l ≡ and_then (one_part parent count size l) (λ e. more_parts parent count size k (l ++ (e ∷ [])))
+unfolding more_parts
+parts_some parent count size k l = refl
+
+-- the parts so far are in the arrays, with the sets of their namers' paths
+pub record PartsSoFar (old now : Reader) (parent : ℕ → ℕ) (count size : ℕ) (path place sets : List ℕ) (n : ℕ) : Type 0 where
+  pub read : SoFar (more_parts parent count size) old now size n (entries_from old.bytes.now path place 0 n)
   pub path_long : length path ≡ part_limit
   pub place_long : length place ≡ part_limit
-  pub sets_long : length sets ≡ part_limit
-  pub named : (m : ℕ) → n ≤ m → m < size → get_or sets m 0 ≡ add_all 0 (namers m (entries_from s path place 0 n))
-  pub rest : run (more_parts parent count size (size - n) (entries_from s path place 0 n)) next (drop next s)
-      ≡ run (more_parts parent count size size []) at (drop at s)
+  pub named : (m : ℕ) → n ≤ m → m < size → get_or sets m 0 ≡ add_all 0 (namers m (entries_from old.bytes.now path place 0 n))
 
-pub parts_start : (s : List ℕ) (parent : ℕ → ℕ) (count size at : ℕ) (path place : List ℕ) → length path ≡ part_limit → length place ≡ part_limit
-    → PartsSoFar s parent count size at path place (replicate part_limit 0) at 0
+pub parts_start : (old : Reader) (parent : ℕ → ℕ) (count size : ℕ) (path place : List ℕ) → length path ≡ part_limit → length place ≡ part_limit
+    → PartsSoFar old old parent count size path place (replicate part_limit 0) 0
 unfolding entries_from namers add_all
-parts_start s parent count size at path place a b =
+parts_start old parent count size path place a b =
     record {
-      most = omega arith;
+      read = so_start (one_part parent count size) (more_parts parent count size) (parts_none parent count size) (parts_some parent count size) old size;
       path_long = a;
       place_long = b;
-      sets_long = refl;
       named = λ m h l. zeros_get part_limit m;
-      rest = let e : size - 0 ≡ size = omega arith in ap (λ (k : ℕ). run (more_parts parent count size k []) at (drop at s)) e;
     }
 
-module _ (s : List ℕ) (parent : ℕ → ℕ) (count size at : ℕ) (path place sets : List ℕ) (next n : ℕ)
-    (inv : PartsSoFar s parent count size at path place sets next n) where
-  es : List Entry
-  es = entries_from s path place 0 n
+module _ (old now : Reader) (parent : ℕ → ℕ) (count size : ℕ) (path place sets : List ℕ) (n : ℕ) (inv : PartsSoFar old now parent count size path place sets n) where
+  module _ (left : n < size) (l : List ℕ) (new : Reader) where
+    -- the part that is read next is the one that follows those in the arrays
+    next_is : part_at parent count size n (get_or sets n 0) ≡ one_part parent count size (entries_from old.bytes.now path place 0 n)
+    unfolding one_part
+    next_is =
+        let many : length (entries_from old.bytes.now path place 0 n) ≡ n = entries_length old.bytes.now path place 0 n in
+        let set : add_all 0 (namers (length (entries_from old.bytes.now path place 0 n)) (entries_from old.bytes.now path place 0 n)) ≡ get_or sets n 0 =
+        ap (λ (m : ℕ). add_all 0 (namers m (entries_from old.bytes.now path place 0 n))) many ∙ sym (inv.named n (omega arith) left) in
+        sym (ap₂ (part_at parent count size) many set)
 
-  go : Entry → Format (List Entry)
-  go e = more_parts parent count size (size - (n + 1)) (es ++ (e ∷ []))
+    pub parts_refused : (parts : Parts) (e : Refusal) → Reads (PartIs now.bytes.now sets l) (part_at parent count size n (get_or sets n 0)) now new (Err e)
+        → Reads (PartsAre old.bytes.now parts) (more_parts parent count size size []) old new (Err e)
+    parts_refused parts e r =
+        so_out (one_part parent count size) (more_parts parent count size) (parts_none parent count size) (parts_some parent count size) old now size n
+        (entries_from old.bytes.now path place 0 n) inv.read (PartIs now.bytes.now sets l) left new (PartsAre old.bytes.now parts) e
+        (subst (λ (f : Format Entry). Reads (PartIs now.bytes.now sets l) f now new (Err e)) next_is r)
 
-  one_more : n < size → run (more_parts parent count size (size - n) es) next (drop next s)
-      ≡ onward go s (run (part_at parent count size n (get_or sets n 0)) next (drop next s))
-  unfolding more_parts one_part es go
-  one_more h =
-      let e : size - n ≡ suc (size - (n + 1)) = omega arith in
-      let many : length (entries_from s path place 0 n) ≡ n = entries_length s path place 0 n in
-      let set : add_all 0 (namers (length (entries_from s path place 0 n)) (entries_from s path place 0 n)) ≡ get_or sets n 0 =
-      ap (λ (m : ℕ). add_all 0 (namers m (entries_from s path place 0 n))) many ∙ sym (inv.named n (omega arith) h) in
-      ap (λ (k : ℕ). run (more_parts parent count size k (entries_from s path place 0 n)) next (drop next s)) e
-      ∙ run_then (one_part parent count size (entries_from s path place 0 n)) go s next
-      ∙ ap₂ (λ (m w : ℕ). onward go s (run (part_at parent count size m w) next (drop next s))) many set
+    pub parts_more : (v : OnePart) → size ≤ part_limit → Reads (PartIs now.bytes.now sets l) (part_at parent count size n (get_or sets n 0)) now new (Ok v)
+        → PartsSoFar old new parent count size (set path n v.path) (set place n v.place) l (n + 1)
+    parts_more v most r =
+        let here : Reads (PartIs now.bytes.now sets l) (one_part parent count size (entries_from old.bytes.now path place 0 n)) now new (Ok v) =
+        subst (λ (f : Format Entry). Reads (PartIs now.bytes.now sets l) f now new (Ok v)) next_is r in
+        let e : Entry = here.answer.0 in
+        let is : PartIs now.bytes.now sets l v e = here.answer.2 in
+        let bytes : now.bytes.now ≡ old.bytes.now = ap (λ b. b.now) inv.read.bytes in
+        let kids : kids_at old.bytes.now v.place ≡ e.kids = ap (λ (s : List ℕ). kids_at s v.place) (sym bytes) ∙ is.kids in
+        let same : record { path = v.path; kids = kids_at old.bytes.now v.place } ≡ e = λ i. record { path = is.path i; kids = kids i } in
+        let new_is : entries_from old.bytes.now (set path n v.path) (set place n v.place) 0 (n + 1) ≡ entries_from old.bytes.now path place 0 n ++ (e ∷ []) =
+        entries_more old.bytes.now path place n v.path v.place inv.path_long inv.place_long (omega arith)
+        ∙ ap (λ (x : Entry). entries_from old.bytes.now path place 0 n ++ (x ∷ [])) same in
+        record {
+          read = subst (SoFar (more_parts parent count size) old new size (n + 1)) (sym new_is)
+              (so_next (one_part parent count size) (more_parts parent count size) (parts_none parent count size) (parts_some parent count size) old now size n
+              (entries_from old.bytes.now path place 0 n) inv.read (PartIs now.bytes.now sets l) left new v here);
+          path_long = length-set path n v.path ∙ inv.path_long;
+          place_long = length-set place n v.place ∙ inv.place_long;
+          named = λ m h g.
+              is.marked.each m (omega arith)
+              ∙ ap (λ (w : ℕ). cond (listed m e.kids) (with_path w e.path) w) (inv.named m (omega arith) g)
+              ∙ sym (ap (λ (l : List Entry). add_all 0 (namers m l)) new_is ∙ set_more m (entries_from old.bytes.now path place 0 n) e.path e.kids);
+        }
 
-  module _ (more : n < size) (fits : size ≤ part_limit) (l : List ℕ) (r : OnePart)
-      (a : PartAnswer s sets l (run (part_at parent count (size % (2 * part_limit)) n (get_or sets n 0)) next (drop next s)) r) where
-    answer : PartAnswer s sets l (run (part_at parent count size n (get_or sets n 0)) next (drop next s)) r
-    answer = let e : size % (2 * part_limit) ≡ size = omega arith in rw e at a
+  pub parts_end : (parts : Parts) → size ≤ n → n ≤ size → parts.count ≡ size → parts.path ≡ path → parts.place ≡ place
+      → Reads (PartsAre old.bytes.now parts) (more_parts parent count size size []) old now (Ok tt)
+  parts_end parts h l e f g =
+      let all : parts.count ≡ n = e ∙ omega arith in
+      so_end (one_part parent count size) (more_parts parent count size) (parts_none parent count size) (parts_some parent count size) old now size n
+      (entries_from old.bytes.now path place 0 n) inv.read (PartsAre old.bytes.now parts) tt h
+      (record { entries = ap₂ (λ (a b : List ℕ). entries_from old.bytes.now a b 0 parts.count) f g ∙ ap (entries_from old.bytes.now path place 0) all })
 
-    pub parts_refused : {k place' : ℕ} → r ≡ OnePart.Refused k place'
-        → PartsAnswer s path place (run (more_parts parent count size size []) at (drop at s)) (Section.Refused k place')
-    unfolding onward es
-    parts_refused {k} {place'} f =
-        let o : run (more_parts parent count size size []) at (drop at s) ≡ refused k place' =
-        sym inv.rest ∙ one_more more ∙ ap (onward go s) (by answer f) in
-        rw o parts-stopped
-      where
-        by : {o : Outcome Entry} {q : OnePart} → PartAnswer s sets l o q → q ≡ OnePart.Refused k place' → o ≡ refused k place'
-        by (part-read k' m) g = absurd (let z : ◌≡◌ {A = ℕ} 0 1 = cc in omega arith)
-        by (part-stopped {k = j} {at = b}) g =
-            let x : j ≡ k = cc in
-            let y : b ≡ place' = cc in
-            ap₂ refused x y
-
-    pub parts_more : {p kids after : ℕ} → r ≡ OnePart.Is p kids after
-        → PartsSoFar s parent count size at (set path n p) (set place n kids) l after (n + 1)
-    unfolding onward go es
-    parts_more {p} {kids} {after} f = by answer f refl
-      where
-        room : n < part_limit
-        room = omega arith
-
-        new : entries_from s (set path n p) (set place n kids) 0 (n + 1)
-            ≡ entries_from s path place 0 n ++ (record { path = p; kids = kids_at s kids } ∷ [])
-        new = entries_more s path place n p kids inv.path_long inv.place_long room
-
-        made : run (part_at parent count size n (get_or sets n 0)) next (drop next s) ≡ got (record { path = p; kids = kids_at s kids }) after
-            → Marked p (kids_at s kids) sets l → PartsSoFar s parent count size at (set path n p) (set place n kids) l after (n + 1)
-        made o marked =
-            record {
-              most = omega arith;
-              path_long = length-set path n p ∙ inv.path_long;
-              place_long = length-set place n kids ∙ inv.place_long;
-              sets_long = marked.same ∙ inv.sets_long;
-              named = λ m h g.
-                  marked.each m (omega arith)
-                  ∙ ap (λ (w : ℕ). cond (listed m (kids_at s kids)) (with_path w p) w) (inv.named m (omega arith) g)
-                  ∙ sym (ap (λ (l : List Entry). add_all 0 (namers m l)) new ∙ set_more m (entries_from s path place 0 n) p (kids_at s kids));
-              rest = ap (λ (l : List Entry). run (more_parts parent count size (size - (n + 1)) l) after (drop after s)) new
-                  ∙ sym (ap (onward go s) o) ∙ sym (one_more more) ∙ inv.rest;
-            }
-
-        by : {o : Outcome Entry} {q : OnePart} → PartAnswer s sets l o q → q ≡ OnePart.Is p kids after
-            → run (part_at parent count size n (get_or sets n 0)) next (drop next s) ≡ o
-            → PartsSoFar s parent count size at (set path n p) (set place n kids) l after (n + 1)
-        by (part-read {p = p'} {place = place'} {next = next'} {ks = ks} e m) g o =
-            let x : p' ≡ p = cc in
-            let y : place' ≡ kids = cc in
-            let z : next' ≡ after = cc in
-            let k : ks ≡ kids_at s kids = sym e ∙ ap (kids_at s) y in
-            made (o ∙ ap₂ got (λ i. record { path = x i; kids = k i }) z)
-            (subst (λ (b : ℕ). Marked b (kids_at s kids) sets l) x (subst (λ (b : List ℕ). Marked p' b sets l) k m))
-        by part-stopped g o = absurd (let z : ◌≡◌ {A = ℕ} 0 1 = cc in omega arith)
-
-  pub parts_end : size ≤ n → PartsAnswer s path place (run (more_parts parent count size size []) at (drop at s)) (Section.Read next)
-  unfolding more_parts run
-  parts_end h =
-      let e : size - n ≡ 0 = omega arith in
-      let o : run (more_parts parent count size size []) at (drop at s) ≡ got (entries_from s path place 0 n) next =
-      sym inv.rest ∙ ap (λ (k : ℕ). run (more_parts parent count size k (entries_from s path place 0 n)) next (drop next s)) e in
-      rw o (parts-read (ap (entries_from s path place 0) (entries_length s path place 0 n)))
-
-pub ruleset parts_laws = (parts_start, parts_refused, parts_more, parts_end)
-
--- ---- to the end of the bytes
-
-module _ (size count : ℕ) (end : Section) where
-  pub end_refused : {k at : ℕ} → end ≡ Section.Refused k at → Listed.Refused k at ≡ listed_answer size count end
-  unfolding listed_answer
-  end_refused e = rw e
-
-  pub end_left : {next : ℕ} → end ≡ Section.Read next → next < size → Listed.Refused 11 next ≡ listed_answer size count end
-  unfolding listed_answer
-  end_left {next} e h = rw (e, lt-ltb next size h)
-
-  pub end_done : {next : ℕ} → end ≡ Section.Read next → size ≤ next → Listed.Parts count ≡ listed_answer size count end
-  unfolding listed_answer
-  end_done {next} e h = rw (e, le-ltb next size h)
-
-pub ruleset end_laws = (end_refused, end_left, end_done)
+-- ---- a document
 
 pub parts_many : (parent : ℕ → ℕ) (count size : ℕ) (s : List ℕ) (many at : ℕ) (es : List Entry) (next : ℕ)
     → run (more_parts parent count size many []) at (drop at s) ≡ got es next → length es ≡ many
@@ -239,45 +190,50 @@ unfolding more_parts
 parts_many parent count size s many at es next e =
     list_many (one_part parent count size) (more_parts parent count size) (λ l. refl) (λ k l. refl) s many [] at es next e ∙ omega arith
 
-module _ (s : List ℕ) (parent : ℕ → ℕ) (count : ℕ) (path place : List ℕ) (r : Number)
-    (e : r ≡ tested (between 1 (part_limit + 1) 15) (number_in (drop 0 s))) where
-  parts : ℕ → Format (List Entry)
-  parts size = more_parts parent count size size []
+module _ (parent : ℕ → ℕ) (count : ℕ) (start first : Reader) (parts : Parts) where
+  pub count_out : (e : Refusal) → Reads Same (want (between 1 (part_limit + 1) 15) (λ (n : ℕ). done n)) start first (Err e)
+      → Reads (PartsAre start.bytes.now parts) (document_file parent count) start first (Err e)
+  unfolding document_file
+  count_out e r = wants_out (PartsAre start.bytes.now parts) _ _ start first e r
 
-  pub document_bad : {k : ℕ} → r ≡ Refused k → DocumentAnswer s path place (run_all (document_file parent count) s) (Listed.Refused k 0)
-  unfolding run_all at_end document_file parts
-  document_bad {k} f =
-      let o : run (want (between 1 (part_limit + 1) 15) parts) 0 (drop 0 s) ≡ refused k 0 = run_refused (between 1 (part_limit + 1) 15) parts s 0 r e f in
-      rw o document-stopped
+  module _ (size : ℕ) (new : Reader) (a : Reads Same (want (between 1 (part_limit + 1) 15) (λ (n : ℕ). done n)) start first (Ok size)) where
+    bytes : first.bytes.now ≡ start.bytes.now
+    bytes = ap (λ b. b.now) a.bytes
 
-  pub document_few : {size width : ℕ} (many : ℕ) → r ≡ Is size width → many ≡ size → many ≤ part_limit
-  document_few {size} {width} many f g =
-      let b : (1 ≤ size) × (size < part_limit + 1) = between_taken 1 (part_limit + 1) 15 s 0 size width r (omega arith) e f in
-      omega arith
+    pub list_on : (r : Result Unit Refusal) → Reads (PartsAre first.bytes.now parts) (more_parts parent count size size []) first new r
+        → Reads (PartsAre start.bytes.now parts) (document_file parent count) start new r
+    unfolding document_file
+    list_on r h =
+        wants_then (PartsAre start.bytes.now parts) _ _ start first size new r a
+        (subst (λ (s : List ℕ). Reads (PartsAre s parts) (more_parts parent count size size []) first new r) bytes h)
 
-  pub document_is : {size width : ℕ} (many : ℕ) (end : Section) (q : Listed) → r ≡ Is size width → many ≡ size
-      → PartsAnswer s path place (run (more_parts parent count many many []) width (drop width s)) end
-      → q ≡ listed_answer (length s) many end → DocumentAnswer s path place (run_all (document_file parent count) s) q
-  unfolding run_all at_end document_file parts listed_answer
-  document_is {size} {width} many end q f g a h =
-      let b : (1 ≤ size) × (size < part_limit + 1) = between_taken 1 (part_limit + 1) 15 s 0 size width r (omega arith) e f in
-      let z : 0 + width ≡ width = omega arith in
-      let o : run (want (between 1 (part_limit + 1) 15) parts) 0 (drop 0 s) ≡ run (parts many) width (drop width s) =
-      run_taken (between 1 (part_limit + 1) 15) parts s 0 r e f ∙ ap₂ (λ (k m : ℕ). run (parts m) k (drop k s)) z (sym g) in
-      rw (h, o) (by a refl (omega arith) (omega arith))
-    where
-      ends : {es : List Entry} (next : ℕ) → entries_from s path place 0 many ≡ es → 1 ≤ many → many ≤ part_limit → (t : Bool)
-          → ltb next (length s) ≡ t
-          → DocumentAnswer s path place (cond t (refused 11 next) (got es next)) (cond t (Listed.Refused 11 next) (Listed.Parts many))
-      ends next k some few true u = document-stopped
-      ends next k some few false u = document_read k some few
+    module _ (r : Reads (PartsAre first.bytes.now parts) (more_parts parent count size size []) first new (Ok tt)) where
+      size_is : parts.count ≡ size
+      size_is =
+          sym (entries_length first.bytes.now parts.path parts.place 0 parts.count) ∙ ap length r.answer.2.entries
+          ∙ parts_many parent count size first.bytes.now size first.at r.answer.0 new.at r.answer.1
 
-      by : {o : Outcome (List Entry)} {w : Section} → PartsAnswer s path place o w
-          → run (more_parts parent count many many []) width (drop width s) ≡ o
-          → 1 ≤ many → many ≤ part_limit → DocumentAnswer s path place (at_end (length s) o) (listed_answer (length s) many w)
-      by (parts-read {es} {next} k) o some few =
-          let m : length es ≡ many = parts_many parent count many s many width es next o in
-          ends next (ap (entries_from s path place 0) (sym m) ∙ k) some few (ltb next (length s)) refl
-      by parts-stopped o some few = document-stopped
+      -- all parts of a document, to the end of its bytes
+      document_is : (s : List ℕ) → start.bytes.now ≡ s → start.at ≡ 0 → 1 ≤ size → size < part_limit + 1 → length new.bytes.now ≤ new.at
+          → DocumentIs s (run_all (document_file parent count) s) parts
+      document_is s e f some few h =
+          let whole = whole_is (PartsAre start.bytes.now parts) (document_file parent count) s start new e f tt (list_on (Ok tt) r) h in
+          record {
+            after = whole.1;
+            answer =
+                whole.2
+                ∙ ap (λ (l : List Entry). got l whole.1)
+                (sym whole.3.entries ∙ ap (λ (t : List ℕ). entries_from t parts.path parts.place 0 parts.count) e);
+            some = omega (arith, size_is);
+            most = omega (arith, size_is);
+          }
 
-pub ruleset document_laws = (document_bad, document_few, document_is)
+      -- unless bytes are left over
+      pub document_end : (s : List ℕ) → start.bytes.now ≡ s → start.at ≡ 0 → 1 ≤ size → size < part_limit + 1 → (q : Result Unit Refusal)
+          → MatchResult q (λ _. length new.bytes.now ≤ new.at) (λ e. (new.at < length new.bytes.now) × (e ≡ record { condition = Condition.LeftOver; offset = new.at }))
+          → MatchResult q (λ _. DocumentIs s (run_all (document_file parent count) s) parts)
+          (λ e. run_all (document_file parent count) s ≡ refused (condition_number e.condition) e.offset)
+      document_end s e f some few (Ok u) h = document_is s e f some few h
+      document_end s e f some few (Err x) h =
+          whole_left (PartsAre start.bytes.now parts) (document_file parent count) s start new e f tt (list_on (Ok tt) r) h.0
+          ∙ ap (λ (y : Refusal). refused (condition_number y.condition) y.offset) (sym h.1)

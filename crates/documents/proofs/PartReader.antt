@@ -1,5 +1,5 @@
--- Laws of the part-list reader's functions, in the words of the code: the tests of a part's path, and its children.
-use Prim.Native.Nat.{ℕ, suc, ◌+◌, ◌-◌, ◌%◌, ◌^◌, ◌<◌, ◌≤◌}
+-- Laws of the part-list reader's functions: the tests of a part's path, its children, and one part.
+use Prim.Native.Nat.{ℕ, zero, suc, ◌+◌, ◌-◌, ◌^◌, ◌<◌, ◌≤◌}
 use mathlib.Core.Path.{◌≡◌, refl, sym, ap, subst, ◌∙◌}
 use mathlib.Core.Bool.{Bool, true, false, cond}
 use mathlib.Core.List.{List, [], ◌∷◌, ◌++◌, append_assoc, append-nil}
@@ -11,23 +11,20 @@ use lib.Seq.{get_or-set_same, get_or-set_other}
 use lib.Pow.{pow_mono}
 use lib.Dec.{eqb}
 use borrow.Author.Tests.{lt-ltb, le-ltb, eq-eqb, ne_eqb}
-use Rattle.files.specs.declared.number.Number.{Number}
-use Rattle.files.specs.declared.number.Number.TheVariants.{Is, Refused}
-use Rattle.files.specs.Number.{number_in}
+use Rattle.std.specs.Prelude.{Ok, Err}
+use Rattle.files.specs.declared.reader.Reader.{Reader}
+use Rattle.files.specs.declared.refusal.Refusal.{Refusal}
+use Rattle.files.specs.Number.{Begun, Is, Refused, number_in}
 use Rattle.files.specs.Sets.{with_path}
-use Rattle.files.specs.Format.{Format, done, want, and_then, Outcome, run, got, refused}
+use Rattle.files.specs.Format.{done, want, Outcome, run, got, refused}
+use Rattle.files.specs.Readers.{Same, Reads}
 use Rattle.files.specs.RuleFile.{between, any, more_ascending}
-use Rattle.files.specs.Reading.{tested}
-use Rattle.files.proofs.Formats.{onward, run_then, run_bad, run_on}
-use Rattle.files.proofs.Numbers.{place_fits}
-use Rattle.files.proofs.ReaderRules.{run_refused, run_taken, tested_taken, tested_fits, between_taken}
+use Rattle.files.proofs.Ascending.{AscendingSoFar, ascending_start, ascending_out, ascending_next, ascending_end}
+use Rattle.files.proofs.Formats.{run_bad, run_own, run_on}
+use Rattle.files.proofs.Readers.{wants_out, wants_then, reads_out, reads_then, reads_done}
 use Rattle.files.proofs.SetBits.{bit_of_zero, with_new, with_past, with_old, has_with}
-use Rattle.documents.specs.declared.document.Section.{Section}
-use Rattle.documents.specs.declared.document.OnePart.{OnePart}
-use Rattle.documents.specs.PartList.{part_limit, Entry, listed, named_test, path_test, kids_on, part_at}
-use Rattle.documents.specs.Reading.{on_kid, kids_from, kids_at, Marked, KidsAnswer, part_of, PartAnswer}
-use Rattle.documents.specs.Reading.KidsAnswer.{read as kids-read, stopped as kids-stopped}
-use Rattle.documents.specs.Reading.PartAnswer.{read as part-read, stopped as part-stopped}
+use Rattle.documents.specs.PartList.{part_limit, listed, named_test, path_test, kids_on, part_at}
+use Rattle.documents.specs.Reading.{on_kid, kids_from, kids_at, Marked, KidsAre, PartIs}
 
 -- the set of one path
 pub with_zero : (x : ℕ) → x < 64 → with_path 0 x ≡ 2 ^ x
@@ -81,11 +78,9 @@ module _ (parent : ℕ → ℕ) (count n set p : ℕ) where
   path_root e f = rw (eq-eqb n 0 e, ne_eqb p 0 f)
 
   module _ (later : n ≡ 0 → ⊥) where
-    pub path_named : (r : ℕ) → p < count → count ≤ 64 → r ≡ named_test parent set (p % 256) → r ≡ path_test parent count n set p
+    pub path_named : (r : ℕ) → p < count → r ≡ named_test parent set p → r ≡ path_test parent count n set p
     unfolding path_test
-    path_named r h few e =
-        let small : p % 256 ≡ p = omega arith in
-        rw (ne_eqb n 0 later, lt-ltb p count h) (e ∙ ap (named_test parent set) small)
+    path_named r h e = rw (ne_eqb n 0 later, lt-ltb p count h) e
 
     pub path_far : count ≤ p → 16 ≡ path_test parent count n set p
     unfolding path_test
@@ -105,13 +100,35 @@ path_small parent count n set p few e = by (ℕ_discrete n 0) (ℕ_discrete p 0)
 
 -- ---- so many children
 
--- a child that was read is below the part count
-pub kid_small : (low size k : ℕ) (s : List ℕ) (next : ℕ) (r : Number) {x width : ℕ} (i : ℕ)
-    → r ≡ tested (between low size k) (number_in (drop next s))
-    → 0 < k → r ≡ Is x width → i ≡ x → size ≤ part_limit → i < part_limit
-kid_small low size k s next r {x} {width} i e some f g few =
-    let b : (low ≤ x) × (x < size) = between_taken low size k s next x width r some e f in
-    omega arith
+-- a number that was read stands where the reader stood
+pub stands_there : (test : ℕ → ℕ) (s : List ℕ) (at : ℕ) {x after : ℕ} → run (want test (λ (n : ℕ). done n)) at (drop at s) ≡ got x after
+    → (width : ℕ) × (number_in (drop at s) ≡ Is x width) × (after ≡ at + width)
+unfolding run
+stands_there test s at {x} {after} e = by (number_in (drop at s)) refl
+  where
+    by : (m : Begun) → number_in (drop at s) ≡ m → (width : ℕ) × (number_in (drop at s) ≡ Is x width) × (after ≡ at + width)
+    by (Is n width) i = on (test n) refl
+      where
+        on : (k : ℕ) → test n ≡ k → (width : ℕ) × (number_in (drop at s) ≡ Is x width) × (after ≡ at + width)
+        on zero t =
+            let f : got n (at + width) ≡ got x after = sym (run_on test (λ (n : ℕ). done n) s at n width i t) ∙ e in
+            let same : n ≡ x = cc in
+            let place : at + width ≡ after = cc in
+            (width, i ∙ ap (λ (k : ℕ). Is k width) same, sym place)
+        on (suc k) t =
+            absurd (let f : ◌≡◌ {A = Outcome ℕ} (refused (suc k) at) (got x after) = sym (run_own test (λ (n : ℕ). done n) at (drop at s) n width k i t) ∙ e in let z : ◌≡◌ {A = ℕ} 0 1 = cc in omega arith)
+    by (Refused k) i =
+        absurd (let f : ◌≡◌ {A = Outcome ℕ} (refused k at) (got x after) = sym (run_bad test (λ (n : ℕ). done n) at (drop at s) k i) ∙ e in let z : ◌≡◌ {A = ℕ} 0 1 = cc in omega arith)
+
+-- a number that was read where a child is wanted is that child
+pub kids_one : (test : ℕ → ℕ) (s : List ℕ) (next left : ℕ) {x after : ℕ} → 0 < left → run (want test (λ (n : ℕ). done n)) next (drop next s) ≡ got x after
+    → kids_from s next left ≡ x ∷ kids_from s after (left - 1)
+unfolding kids_from on_kid
+kids_one test s next left {x} {after} h e =
+    let t : (width : ℕ) × (number_in (drop next s) ≡ Is x width) × (after ≡ next + width) = stands_there test s next e in
+    let f : left ≡ suc (left - 1) = omega arith in
+    ap (kids_from s next) f ∙ ap (on_kid (λ x size. x ∷ kids_from s (next + size) (left - 1))) t.1
+    ∙ ap (λ (k : ℕ). x ∷ kids_from s k (left - 1)) (sym t.2)
 
 listed_snoc : (m : ℕ) (ks : List ℕ) (x : ℕ) → listed m (ks ++ (x ∷ [])) ≡ cond (listed m ks) true (eqb x m)
 unfolding listed
@@ -177,139 +194,109 @@ mark_more p ks before after x inv long h =
         subst (Goal m) (sym (ne_eqb x m (λ z. n (sym z))))
         (get_or-set_other after x m (with_path (get_or after x 0) p) 0 n ∙ inv.each m l ∙ keeps (listed m ks) _ _)
 
-pub mark_is : (l : List ℕ) (k p q w : ℕ) → q ≡ p → w ≡ with_path (get_or l k 0) q → set l k w ≡ set l k (with_path (get_or l k 0) p)
-mark_is l k p q w e f = ap (set l k) (f ∙ ap (with_path (get_or l k 0)) e)
-
--- the children so far are marked, and reading goes on at `next`
-pub record KidsSoFar (s : List ℕ) (at size n p many : ℕ) (before after : List ℕ) (last next left : ℕ) : Type 0 where
+-- the children so far are read and marked
+pub record KidsSoFar (old now : Reader) (size n p many i : ℕ) (before after : List ℕ) (last : ℕ) : Type 0 where
   pub ks : List ℕ
-  pub kids : ks ++ kids_from s next left ≡ kids_from s at many
+  pub read : AscendingSoFar old now 19 size many n i last ks
+  pub kids : ks ++ kids_from old.bytes.now now.at (many - i) ≡ kids_from old.bytes.now old.at many
   pub marked : Marked p ks before after
   pub long : length after ≡ part_limit
   pub small : last < part_limit
-  pub rest : run (more_ascending 19 size left last ks) next (drop next s) ≡ run (more_ascending 19 size many n []) at (drop at s)
 
-pub kids_start : (s : List ℕ) (at size n p many : ℕ) (l : List ℕ) → length l ≡ part_limit → n < part_limit → KidsSoFar s at size n p many l l n at many
-kids_start s at size n p many l long h = record { ks = []; kids = refl; marked = mark_none p l; long = long; small = h; rest = refl }
+pub kids_start : (old : Reader) (size n p many : ℕ) (l : List ℕ) → length l ≡ part_limit → n < part_limit → KidsSoFar old old size n p many 0 l l n
+kids_start old size n p many l long h =
+    record {
+      ks = [];
+      read = ascending_start old 19 size many n;
+      kids = (let e : many - 0 ≡ many = omega arith in ap (kids_from old.bytes.now old.at) e);
+      marked = mark_none p l;
+      long = long;
+      small = h;
+    }
 
--- a number that stands where a child is wanted
-pub kids_one : (s : List ℕ) (next left x width : ℕ) → 0 < left → number_in (drop next s) ≡ Is x width
-    → kids_from s next left ≡ x ∷ kids_from s (next + width) (left - 1)
-unfolding kids_from on_kid
-kids_one s next left x width h e =
-    let f : left ≡ suc (left - 1) = omega arith in
-    ap (kids_from s next) f ∙ ap (on_kid (λ x size. x ∷ kids_from s (next + size) (left - 1))) e
+module _ (old now : Reader) (size n p many i : ℕ) (before after : List ℕ) (last : ℕ) (inv : KidsSoFar old now size n p many i before after last) where
+  pub kids_small : last < part_limit
+  kids_small = inv.small
 
-module _ (s : List ℕ) (at size n p many : ℕ) (before after : List ℕ) (last next left : ℕ)
-    (inv : KidsSoFar s at size n p many before after last next left) where
-  wanted : 0 < left → run (more_ascending 19 size left last inv.ks) next (drop next s)
-      ≡ run (want (between (last + 1) size 19) (λ x. more_ascending 19 size (left - 1) x (inv.ks ++ (x ∷ [])))) next (drop next s)
-  unfolding more_ascending
-  wanted h = let e : left ≡ suc (left - 1) = omega arith in ap (λ (k : ℕ). run (more_ascending 19 size k last inv.ks) next (drop next s)) e
+  module _ (h : i < many) (new : Reader) where
+    pub kids_refused : (e : Refusal) → Reads Same (want (between (last + 1) size 19) (λ (n : ℕ). done n)) now new (Err e)
+        → Reads (KidsAre old many p before after) (more_ascending 19 size many n []) old new (Err e)
+    kids_refused e r = ascending_out old now 19 size many n i last inv.ks inv.read h new (KidsAre old many p before after) e r
 
-  module _ (r : Number) (e : r ≡ tested (between (last + 1) size 19) (number_in (drop next s))) (h : 0 < left) where
-    pub kids_bad : {k : ℕ} → r ≡ Refused k
-        → KidsAnswer s at many p before after (run (more_ascending 19 size many n []) at (drop at s)) (Section.Refused k next)
-    kids_bad {k} f =
-        let o : run (more_ascending 19 size many n []) at (drop at s) ≡ refused k next =
-        sym inv.rest ∙ wanted h
-        ∙ run_refused (between (last + 1) size 19) (λ x. more_ascending 19 size (left - 1) x (inv.ks ++ (x ∷ []))) s next r e f in
-        rw o kids-stopped
-
-    pub kids_more : {x width : ℕ} (i : ℕ) (l : List ℕ) → r ≡ Is x width → size ≤ part_limit → i ≡ x
-        → l ≡ set after i (with_path (get_or after i 0) p) → KidsSoFar s at size n p many before l x (next + width) (left - 1)
-    kids_more {x} {width} i l f few g j =
-        let t : (number_in (drop next s) ≡ Is x width) × (between (last + 1) size 19 x ≡ 0) =
-        tested_taken (between (last + 1) size 19) (number_in (drop next s)) x width (sym f ∙ e) in
-        let b : (last + 1 ≤ x) × (x < size) = between_taken (last + 1) size 19 s next x width r (omega arith) e f in
-        let k : l ≡ set after x (with_path (get_or after x 0) p) = j ∙ ap (λ (y : ℕ). set after y (with_path (get_or after y 0) p)) g in
+    pub kids_more : (x q w : ℕ) → Reads Same (want (between (last + 1) size 19) (λ (n : ℕ). done n)) now new (Ok x) → x < part_limit → q ≡ p
+        → w ≡ with_path (get_or after x 0) q → KidsSoFar old new size n p many (i + 1) before (set after x w) x
+    kids_more x q w r small g e =
+        let k : set after x w ≡ set after x (with_path (get_or after x 0) p) = ap (set after x) (e ∙ ap (with_path (get_or after x 0)) g) in
+        let bytes : now.bytes.now ≡ old.bytes.now = ap (λ b. b.now) inv.read.bytes in
+        let one : kids_from now.bytes.now now.at (many - i) ≡ r.answer.0 ∷ kids_from now.bytes.now new.at (many - i - 1) =
+        kids_one (between (last + 1) size 19) now.bytes.now now.at (many - i) (omega arith) r.answer.1 in
+        let fewer : many - i - 1 ≡ many - (i + 1) = omega arith in
+        let here : kids_from old.bytes.now now.at (many - i) ≡ x ∷ kids_from old.bytes.now new.at (many - (i + 1)) =
+        ap (λ (s : List ℕ). kids_from s now.at (many - i)) (sym bytes) ∙ one
+        ∙ ap (λ (s : List ℕ). r.answer.0 ∷ kids_from s new.at (many - i - 1)) bytes
+        ∙ ap (λ (y : ℕ). y ∷ kids_from old.bytes.now new.at (many - i - 1)) (sym r.answer.2)
+        ∙ ap (λ (y : ℕ). x ∷ kids_from old.bytes.now new.at y) fewer in
         record {
           ks = inv.ks ++ (x ∷ []);
-          kids = append_assoc inv.ks (x ∷ []) (kids_from s (next + width) (left - 1))
-              ∙ ap (λ (t : List ℕ). inv.ks ++ t) (sym (kids_one s next left x width h t.0)) ∙ inv.kids;
-          marked = subst (Marked p (inv.ks ++ (x ∷ [])) before) (sym k)
-              (mark_more p inv.ks before after x inv.marked inv.long (omega arith));
+          read = ascending_next old now 19 size many n i last inv.ks inv.read h new x r;
+          kids = append_assoc inv.ks (x ∷ []) (kids_from old.bytes.now new.at (many - (i + 1))) ∙ ap (λ (t : List ℕ). inv.ks ++ t) (sym here) ∙ inv.kids;
+          marked = subst (Marked p (inv.ks ++ (x ∷ [])) before) (sym k) (mark_more p inv.ks before after x inv.marked inv.long small);
           long = ap length k ∙ length-set after x (with_path (get_or after x 0) p) ∙ inv.long;
-          small = omega arith;
-          rest = sym
-              (sym inv.rest ∙ wanted h
-              ∙ run_taken (between (last + 1) size 19) (λ x. more_ascending 19 size (left - 1) x (inv.ks ++ (x ∷ []))) s next r e f);
+          small = small;
         }
 
-  pub kids_end : left ≤ 0 → KidsAnswer s at many p before after (run (more_ascending 19 size many n []) at (drop at s)) (Section.Read next)
-  unfolding more_ascending run kids_from
+  pub kids_end : many ≤ i → Reads (KidsAre old many p before after) (more_ascending 19 size many n []) old now (Ok tt)
+  unfolding kids_from
   kids_end h =
-      let e : left ≡ 0 = omega arith in
-      let o : run (more_ascending 19 size many n []) at (drop at s) ≡ got inv.ks next =
-      sym inv.rest ∙ ap (λ (k : ℕ). run (more_ascending 19 size k last inv.ks) next (drop next s)) e in
-      let k : kids_from s at many ≡ inv.ks =
-      sym inv.kids ∙ ap (λ (j : ℕ). inv.ks ++ kids_from s next j) e ∙ append-nil inv.ks in
-      rw o (kids-read k inv.marked)
-
-pub ruleset kids_laws = (kid_small, kids_start, kids_bad, kids_more, kids_end, tested_fits)
+      let e : many - i ≡ 0 = omega arith in
+      let k : kids_from old.bytes.now old.at many ≡ inv.ks =
+      sym inv.kids ∙ ap (λ (j : ℕ). inv.ks ++ kids_from old.bytes.now now.at j) e ∙ append-nil inv.ks in
+      ascending_end old now 19 size many n i last inv.ks inv.read (KidsAre old many p before after) tt h (record { kids = k; marked = inv.marked })
 
 -- ---- one part
 
-pub part_refused : {k at : ℕ} (p place : ℕ) (end : Section) → end ≡ Section.Refused k at → OnePart.Refused k at ≡ part_of p place end
-unfolding part_of
-part_refused p place end e = rw e
-
-pub part_done : {next : ℕ} (p place : ℕ) (end : Section) → end ≡ Section.Read next → OnePart.Is p place next ≡ part_of p place end
-unfolding part_of
-part_done p place end e = rw e
-
-pub ruleset part_of_laws = (part_refused, part_done)
-
-module _ (s : List ℕ) (at size n p : ℕ) (before after : List ℕ) (m : Number) (e : m ≡ number_in (drop at s)) where
-  on : ℕ → Format Entry
-  on k = and_then (more_ascending 19 size k n []) (λ ks. done (record { path = p; kids = ks }))
-
-  pub count_bad : {k : ℕ} → m ≡ Refused k → PartAnswer s before after (run (kids_on size n p) at (drop at s)) (OnePart.Refused k at)
-  unfolding kids_on on
-  count_bad {k} f =
-      let o : run (kids_on size n p) at (drop at s) ≡ refused k at = run_bad {A = Entry} any (λ k. on k) at (drop at s) k (sym e ∙ f) in
-      rw o part-stopped
-
-  pub count_is : {many width : ℕ} (end : Section) (q : OnePart) → m ≡ Is many width
-      → KidsAnswer s (at + width) many p before after (run (more_ascending 19 size many n []) (at + width) (drop (at + width) s)) end
-      → q ≡ part_of p at end → PartAnswer s before after (run (kids_on size n p) at (drop at s)) q
-  unfolding kids_on on onward part_of run kids_at on_kid
-  count_is {many} {width} end q f a g =
-      rw (
-        g,
-        run_on {A = Entry} any (λ k. on k) s at many width (sym e ∙ f) refl
-            ∙ run_then (more_ascending 19 size many n []) (λ ks. done (record { path = p; kids = ks })) s (at + width),
-      )
-      (by a)
-    where
-      by : {o : Outcome (List ℕ)} {r : Section} → KidsAnswer s (at + width) many p before after o r
-          → PartAnswer s before after (onward (λ ks. done (record { path = p; kids = ks })) s o) (part_of p at r)
-      by (kids-read {ks} k marked) = part-read (ap (on_kid (λ k size. kids_from s (at + size) k)) (sym e ∙ f) ∙ k) marked
-      by kids-stopped = part-stopped
-
-pub ruleset count_laws = (count_bad, count_is, place_fits)
-
-module _ (s : List ℕ) (at : ℕ) (parent : ℕ → ℕ) (count size n set : ℕ) (before after : List ℕ) (r : Number)
-    (e : r ≡ tested (path_test parent count n set) (number_in (drop at s))) where
-  pub part_bad : {k : ℕ} → r ≡ Refused k
-      → PartAnswer s before after (run (part_at parent count size n set) at (drop at s)) (OnePart.Refused k at)
+module _ (parent : ℕ → ℕ) (count size n set p : ℕ) (before after : List ℕ) (old : Reader) where
+  pub part_out : (mid : Reader) (e : Refusal) → Reads Same (want (path_test parent count n set) (λ (n : ℕ). done n)) old mid (Err e)
+      → Reads (PartIs old.bytes.now before after) (part_at parent count size n set) old mid (Err e)
   unfolding part_at
-  part_bad {k} f =
-      let o : run (part_at parent count size n set) at (drop at s) ≡ refused k at =
-      run_refused {A = Entry} (path_test parent count n set) (λ p. kids_on size n p) s at r e f in
-      rw o part-stopped
+  part_out mid e r = wants_out (PartIs old.bytes.now before after) _ _ old mid e r
 
-  pub part_is : {p width : ℕ} (q : OnePart) → r ≡ Is p width → count ≤ 64 → n < part_limit
-      → PartAnswer s before after (run (kids_on size (n % part_limit) (p % 256)) (at + width) (drop (at + width) s)) q
-      → PartAnswer s before after (run (part_at parent count size n set) at (drop at s)) q
-  unfolding part_at
-  part_is {p} {width} q f few below a =
-      let t : (number_in (drop at s) ≡ Is p width) × (path_test parent count n set p ≡ 0) =
-      tested_taken (path_test parent count n set) (number_in (drop at s)) p width (sym f ∙ e) in
-      let small : p % 256 ≡ p = omega (arith, path_small parent count n set p few t.1) in
-      let own : n % part_limit ≡ n = omega arith in
-      let o : run (part_at parent count size n set) at (drop at s) ≡ run (kids_on size n p) (at + width) (drop (at + width) s) =
-      run_taken {A = Entry} (path_test parent count n set) (λ p. kids_on size n p) s at r e f in
-      rw o (rw (small, own) at a)
+  module _ (first : Reader) (a : Reads Same (want (path_test parent count n set) (λ (n : ℕ). done n)) old first (Ok p)) where
+    pub part_count_out : (new : Reader) (e : Refusal) → Reads Same (want any (λ (n : ℕ). done n)) first new (Err e)
+        → Reads (PartIs old.bytes.now before after) (part_at parent count size n set) old new (Err e)
+    unfolding part_at kids_on
+    part_count_out new e r =
+        wants_then (PartIs old.bytes.now before after) _ _ old first p new (Err e) a (wants_out (PartIs old.bytes.now before after) _ _ first new e r)
 
-pub ruleset part_laws = (part_bad, part_is, tested_fits)
+    module _ (second new : Reader) (many : ℕ) (b : Reads Same (want any (λ (n : ℕ). done n)) first second (Ok many)) where
+      pub part_kids_out : (e : Refusal) → Reads (KidsAre second many p before after) (more_ascending 19 size many n []) second new (Err e)
+          → Reads (PartIs old.bytes.now before after) (part_at parent count size n set) old new (Err e)
+      unfolding part_at kids_on
+      part_kids_out e r =
+          wants_then (PartIs old.bytes.now before after) _ _ old first p new (Err e) a
+          (wants_then (PartIs old.bytes.now before after) _ _ first second many new (Err e) b
+          (reads_out (KidsAre second many p before after) (PartIs old.bytes.now before after) _ _ second new e r))
+
+      pub part_is : Reads (KidsAre second many p before after) (more_ascending 19 size many n []) second new (Ok tt)
+          → Reads (PartIs old.bytes.now before after) (part_at parent count size n set) old new (Ok (record { path = p; place = first.at }))
+      unfolding part_at kids_on kids_at on_kid
+      part_is r =
+          let same : first.bytes.now ≡ old.bytes.now = ap (λ b. b.now) a.bytes in
+          let also : second.bytes.now ≡ old.bytes.now = ap (λ b. b.now) b.bytes ∙ same in
+          let there : (width : ℕ) × (number_in (drop first.at first.bytes.now) ≡ Is b.answer.0 width) × (second.at ≡ first.at + width) =
+          stands_there any first.bytes.now first.at b.answer.1 in
+          wants_then (PartIs old.bytes.now before after) _ _ old first p new _ a
+          (wants_then (PartIs old.bytes.now before after) _ _ first second many new _ b
+          (reads_then (KidsAre second many p before after) (PartIs old.bytes.now before after) _ _ second new tt new _ r
+          (λ ks are. reads_done (PartIs old.bytes.now before after) _ _ new
+          (record {
+            path = refl;
+            kids =
+                ap (λ (s : List ℕ). on_kid (λ k width. kids_from s (first.at + width) k) (number_in (drop first.at s))) (sym same)
+                ∙ ap (on_kid (λ k width. kids_from first.bytes.now (first.at + width) k)) there.1
+                ∙ ap (λ (k : ℕ). kids_from first.bytes.now (first.at + there.0) k) (sym b.answer.2)
+                ∙ ap (λ (at : ℕ). kids_from first.bytes.now at many) (sym there.2)
+                ∙ ap (λ (s : List ℕ). kids_from s second.at many) (same ∙ sym also)
+                ∙ are.kids;
+            marked = are.marked;
+          }))))

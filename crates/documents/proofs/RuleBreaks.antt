@@ -12,10 +12,7 @@ use borrow.Author.Tests.{eq-eqb, ne_eqb, eqb-true}
 use Rattle.files.specs.Sets.{Has, hasb}
 use Rattle.files.specs.Table.{Rule, Numbered, first, later}
 use Rattle.files.proofs.SetBits.{hasb_true, hasb_has}
-use Rattle.documents.specs.declared.check.Place.{Place}
-use Rattle.documents.specs.declared.check.Place.TheVariants.{At, Nowhere}
-use Rattle.documents.specs.declared.check.Break.{Break}
-use Rattle.documents.specs.declared.check.Break.TheVariants.{Unbroken}
+use Rattle.documents.specs.Answers.{Place, At, Nowhere, Break, Unbroken}
 use Rattle.documents.specs.Paths.{context_of}
 use Rattle.documents.specs.PartList.{Entry, entry_path}
 use Rattle.documents.specs.Checking.{breaks, break_from, or_later, broken_from}

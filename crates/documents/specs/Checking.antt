@@ -6,12 +6,7 @@ use Rattle.files.specs.Rules.{rules_of}
 use Rattle.files.specs.Sets.{hasb, with_path, union, difference, lowest}
 use Rattle.files.specs.Table.{Rule}
 use Rattle.files.specs.TableTest.{table_passes}
-use Rattle.documents.specs.declared.check.Checked.{Checked}
-use Rattle.documents.specs.declared.check.Checked.TheVariants.{Obeys, Broken, Missing, Refused}
-use Rattle.documents.specs.declared.check.Place.{Place}
-use Rattle.documents.specs.declared.check.Place.TheVariants.{At, Nowhere}
-use Rattle.documents.specs.declared.check.Break.{Break}
-use Rattle.documents.specs.declared.check.Break.TheVariants.{Unbroken}
+use Rattle.documents.specs.Answers.{Checked, Obeys, Broken, Missing, Refused, Place, At, Nowhere, Break, Unbroken}
 use Rattle.documents.specs.Paths.{context_of}
 use Rattle.documents.specs.PartList.{Entry, document_file}
 use Rattle.documents.specs.Judgement.{parents_of, Judged}

@@ -1,7 +1,7 @@
 -- Documents byte for byte, with what checking them against the rules of a literal file answers.
 use Rattle.std.specs.Prelude.{ℕ, List, [], ◌∷◌}
 use Rattle.files.specs.LiteralFiles.{LiteralFile, listed_file, full_file}
-use Rattle.documents.specs.declared.check.Checked.{Checked}
+use Rattle.documents.specs.Answers.{Checked}
 
 -- a document, the file whose rules it is checked against, and the answer
 pub record LiteralDocument : Type 0 where

@@ -1,13 +1,11 @@
 -- What the functions of the part-list reader answer.
 use Rattle.std.specs.Prelude.{ℕ, zero, suc, ◌+◌, ◌≤◌, ◌<◌, ◌≡◌, cond, List, [], ◌∷◌, length, get_or, drop, ltb}
-use Rattle.files.specs.declared.number.Number.{Number}
-use Rattle.files.specs.declared.number.Number.TheVariants.{Is, Refused}
-use Rattle.files.specs.Number.{number_in}
-use Rattle.files.specs.Format.{Outcome, got, refused}
+use Rattle.files.specs.declared.reader.Reader.{Reader}
+use Rattle.files.specs.Number.{Begun, Is, Refused, number_in}
+use Rattle.files.specs.Format.{Outcome, got}
 use Rattle.files.specs.Sets.{with_path}
-use Rattle.documents.specs.declared.document.Section.{Section}
 use Rattle.documents.specs.declared.document.OnePart.{OnePart}
-use Rattle.documents.specs.declared.document.Listed.{Listed}
+use Rattle.documents.specs.declared.document.Parts.{Parts}
 use Rattle.documents.specs.PartList.{part_limit, Entry, listed}
 
 -- the parent of a path as an array of 64 has it; 0 past it
@@ -15,7 +13,7 @@ unfoldable pub parent_at : List ℕ → ℕ → ℕ
 parent_at parent x = cond (ltb x 64) (get_or parent x 0) 0
 
 -- what follows a number, if one stands there
-unfoldable pub on_kid : (ℕ → ℕ → List ℕ) → Number → List ℕ
+unfoldable pub on_kid : (ℕ → ℕ → List ℕ) → Begun → List ℕ
 on_kid follow (Is k width) = follow k width
 on_kid follow (Refused k) = []
 
@@ -39,36 +37,24 @@ pub record Marked (p : ℕ) (ks before after : List ℕ) : Type 0 where
   pub same : length after ≡ length before
   pub each : (m : ℕ) → m < part_limit → get_or after m 0 ≡ cond (listed m ks) (with_path (get_or before m 0) p) (get_or before m 0)
 
--- so many children of a part on path p were read at `at`, and marked; or the refusal
-pub data KidsAnswer (s : List ℕ) (at many p : ℕ) (before after : List ℕ) : Outcome (List ℕ) → Section → Type 0 where
-  read : {ks : List ℕ} {next : ℕ} → kids_from s at many ≡ ks → Marked p ks before after
-      → KidsAnswer s at many p before after (got ks next) (Section.Read next)
-  stopped : {k place : ℕ} → KidsAnswer s at many p before after (refused k place) (Section.Refused k place)
+-- so many children of a part on path p were read from where the reader stood, and marked
+pub record KidsAre (old : Reader) (many p : ℕ) (before after : List ℕ) (r : Unit {0}) (ks : List ℕ) : Type 0 where
+  pub kids : kids_from old.bytes.now old.at many ≡ ks
+  pub marked : Marked p ks before after
 
--- a part whose children were read, or their refusal
-unfoldable pub part_of : ℕ → ℕ → Section → OnePart
-part_of p place (Section.Read next) = OnePart.Is p place next
-part_of p place (Section.Refused k at) = OnePart.Refused k at
+-- what was read is this part, and its children are marked
+pub record PartIs (s before after : List ℕ) (r : OnePart) (e : Entry) : Type 0 where
+  pub path : r.path ≡ e.path
+  pub kids : kids_at s r.place ≡ e.kids
+  pub marked : Marked e.path e.kids before after
 
--- a part was read, and its children marked; or the refusal
-pub data PartAnswer (s before after : List ℕ) : Outcome Entry → OnePart → Type 0 where
-  read : {p place next : ℕ} {ks : List ℕ} → kids_at s place ≡ ks → Marked p ks before after
-      → PartAnswer s before after (got (record { path = p; kids = ks }) next) (OnePart.Is p place next)
-  stopped : {k at : ℕ} → PartAnswer s before after (refused k at) (OnePart.Refused k at)
+-- these parts were read
+pub record PartsAre (s : List ℕ) (parts : Parts) (r : Unit {0}) (es : List Entry) : Type 0 where
+  pub entries : entries_from s parts.path parts.place 0 parts.count ≡ es
 
--- parts were read, which the arrays have; or the refusal
-pub data PartsAnswer (s path place : List ℕ) : Outcome (List Entry) → Section → Type 0 where
-  read : {es : List Entry} {next : ℕ} → entries_from s path place 0 (length es) ≡ es
-      → PartsAnswer s path place (got es next) (Section.Read next)
-  stopped : {k at : ℕ} → PartsAnswer s path place (refused k at) (Section.Refused k at)
-
--- the parts of a document of so many bytes, unless bytes are left over
-unfoldable pub listed_answer : ℕ → ℕ → Section → Listed
-listed_answer bytes parts (Section.Read next) = cond (ltb next bytes) (Listed.Refused 11 next) (Listed.Parts parts)
-listed_answer bytes parts (Section.Refused k at) = Listed.Refused k at
-
--- a document was read, whose parts the arrays have; or the refusal
-pub data DocumentAnswer (s path place : List ℕ) : Outcome (List Entry) → Listed → Type 0 where
-  read : {es : List Entry} {next parts : ℕ} → entries_from s path place 0 parts ≡ es → 1 ≤ parts → parts ≤ part_limit
-      → DocumentAnswer s path place (got es next) (Listed.Parts parts)
-  stopped : {k at : ℕ} → DocumentAnswer s path place (refused k at) (Listed.Refused k at)
+-- what was read of a document are the parts that reading answers
+pub record DocumentIs (s : List ℕ) (o : Outcome (List Entry)) (r : Parts) : Type 0 where
+  pub after : ℕ
+  pub answer : o ≡ got (entries_from s r.path r.place 0 r.count) after
+  pub some : 1 ≤ r.count
+  pub most : r.count ≤ part_limit

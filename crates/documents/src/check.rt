@@ -1,240 +1,151 @@
 // Checking a document against the rules.
-ghost use Rattle.std.specs.Prelude.{◌+◌, ◌≤◌, ◌<◌, ◌≡◌, get_or};
+ghost use Rattle.std.specs.Prelude.{◌+◌, ◌≤◌, ◌<◌, ◌≡◌, Ok, get_or};
 ghost use Rattle.files.specs.Format.{run_all};
+ghost use Rattle.files.specs.Kinds.{kind_number};
 ghost use Rattle.files.specs.Rules.{rules_of, rules_from};
 ghost use Rattle.files.specs.Table.{parent_in};
+ghost use Rattle.documents.specs.Answers.{checked, place, found};
 ghost use Rattle.documents.specs.Paths.{context_of};
 ghost use Rattle.documents.specs.PartList.{part_limit, document_file};
 ghost use Rattle.documents.specs.Checking.{breaks, broken_from, held, or_missing, verdict, judged, CheckDocument};
 ghost use Rattle.documents.specs.Reading.{parent_at, entries_from};
-ghost use Rattle.documents.specs.Held.{Laid, Forward, rule, first_on, break_along, broken_along};
+ghost use Rattle.documents.specs.Held.{Laid, Linking, rule, first_on, break_along, broken_along};
 
 use crate::context::context;
-use crate::document::{Listed, PARTS, read_document};
-use crate::held::hold_all;
-use files::number::wide;
+use crate::document::{PARTS, Parts, Paths, read_document};
+use crate::held::{Held, hold_all};
+use files::kind::Kind;
+use files::refusal::{Condition, Refusal};
 use files::rules::{Rules, parents};
-use files::sets::{difference, has, lowest};
+use files::sets;
 use files::valid::valid_table;
 
-// Past every part.
-const NO_PART: u16 = 512;
+// A document of more bytes is refused.
+const LONGEST: usize = 65536;
 
-// Whether a document obeys: the least broken rule and the least part that breaks it, the least required path missing, or the
-// refusal's number and offset.
-#[derive(Clone, Copy)]
+// Whether a document obeys: the least broken rule and the least part that breaks it, or the least required path missing.
+#[derive(Clone, Copy, Debug, PartialEq, Eq)]
 pub enum Checked {
     Obeys,
     Broken(usize, usize),
     Missing(usize),
-    Refused(u8, usize),
 }
 
-// Where among the parts something stands: its number, or nowhere.
 #[derive(Clone, Copy)]
-enum Place {
-    At(usize),
-    Nowhere,
-}
-
-// The least broken rule and the least part that breaks it.
-#[derive(Clone, Copy)]
-enum Break {
-    Broken(usize, usize),
-    Unbroken,
-}
-
-fn wide16(b: u16) -> usize
-    ensures { result ≡ b }
-{
-    b as usize
-}
-
-// Whether a part on the context that holds the paths of `set` breaks the rule.
-fn breaks(kind: u8, left: u8, right: u8, set: u64) -> bool
-    ensures { result ≡ breaks (rule kind left right) set }
-{
-    let p = has(set, wide(left));
-    let q = has(set, wide(right));
-    if kind == 2 {
-        if p {
-            return q;
-        }
-        return false;
-    }
-    if p {
-        return !q;
-    }
-    if kind == 1 {
-        return false;
-    }
-    q
-}
-
-// The least part that breaks the rule, along the parts on one path from `start` on.
-fn broken_part(
-    kind: u8,
+struct Rule {
+    kind: Kind,
     left: u8,
     right: u8,
-    start: usize,
-    parts: usize,
-    sets: &[u64; PARTS],
-    next: &[u16; PARTS],
-) -> Place
-    requires { (parts ≤ part_limit) × Forward parts next.now }
-    ensures { result ≡ break_along (rule kind left right) sets.now next.now parts parts start }
-{
-    let mut n = start;
-    while n < parts {
-        if breaks(kind, left, right, sets[n]) {
-            return Place::At(n);
-        }
-        n = wide16(next[n]);
-    }
-    Place::Nowhere
 }
 
-// The least part that breaks the rule: the parts on its context are looked at.
-fn rule_broken(
-    kind: u8,
-    left: u8,
-    right: u8,
-    parent: &[u8; 64],
-    parts: usize,
-    sets: &[u64; PARTS],
-    first: &[u16; 256],
-    next: &[u16; PARTS],
-) -> Place
-    requires { (parts ≤ part_limit) × Forward parts next.now }
-    ensures { result ≡ break_along (rule kind left right) sets.now next.now parts parts
-        (first_on first.now (context_of (parent_at parent.now) left right)) }
-{
-    let c = wide(context(parent, left, right));
-    broken_part(kind, left, right, wide16(first[c]), parts, sets, next)
-}
-
-// The least broken rule and the least part that breaks it.
-fn broken_rule(
-    kind: &[u8; 256],
-    left: &[u8; 256],
-    right: &[u8; 256],
-    many: usize,
-    parent: &[u8; 64],
-    parts: usize,
-    sets: &[u64; PARTS],
-    first: &[u16; 256],
-    next: &[u16; PARTS],
-) -> Break
-    requires { (many ≤ 256) × (parts ≤ part_limit) × Forward parts next.now }
-    ensures { result ≡ broken_along (parent_at parent.now) parts sets.now first.now next.now 0
-        (rules_from kind.now left.now right.now 0 many) }
-{
-    let mut r = 0usize;
-    while r < many {
-        match rule_broken(kind[r], left[r], right[r], parent, parts, sets, first, next) {
-            Place::At(n) => {
-                return Break::Broken(r, n);
-            }
-            Place::Nowhere => {
-                r += 1;
-            }
+impl Rule {
+    // Whether a part on the context that holds the paths of `set` breaks the rule.
+    #[tactic(auto, using(crate::proofs::Breaking::breaks_laws))]
+    fn broken_by(self, set: u64) -> bool
+        ensures { result ≡ breaks (rule (kind_number self.kind) self.left self.right) set }
+    {
+        let left = sets::has(set, usize::from(self.left));
+        let right = sets::has(set, usize::from(self.right));
+        match self.kind {
+            Kind::Implication => left && !right,
+            Kind::Absence => left && right,
+            Kind::CoOccurrence => left != right,
         }
     }
-    Break::Unbroken
+
+    // The least part that breaks the rule: the parts on its context are looked at.
+    fn broken_part(self, parent: &[u8; 64], held: &Held) -> Option<usize>
+        requires { Linking held.now.first held.now.next }
+        ensures { place result ≡ break_along (rule (kind_number self.kind) self.left self.right) held.now.sets held.now.next part_limit part_limit
+            (first_on held.now.first (context_of (parent_at parent.now) self.left self.right)) }
+    {
+        for part in held.on_path(context(parent, self.left, self.right)) {
+            if self.broken_by(held.sets[part]) {
+                return Some(part);
+            }
+        }
+        None
+    }
+}
+
+// The least broken rule and the least part that breaks it. A rule of a kind that no valid table has counts as a co-occurrence.
+#[tactic(auto, using(crate::proofs::Judging::rules_laws))]
+fn broken_rule(rules: &Rules, parent: &[u8; 64], held: &Held) -> Option<(usize, usize)>
+    requires { (rules.now.rules ≤ 256) × Linking held.now.first held.now.next }
+    ensures { found result ≡ broken_along (parent_at parent.now) part_limit held.now.sets held.now.first held.now.next 0
+        (rules_from rules.now.kind rules.now.left rules.now.right 0 rules.now.rules) }
+{
+    for r in 0..rules.rules {
+        let rule = Rule {
+            kind: Kind::try_from(usize::from(rules.kind[r])).unwrap_or(Kind::CoOccurrence),
+            left: rules.left[r],
+            right: rules.right[r],
+        };
+        if let Some(part) = rule.broken_part(parent, held) {
+            return Some((r, part));
+        }
+    }
+    None
 }
 
 // The verdict where no rule is broken, on a document that holds the paths of `set`.
+#[tactic(auto, using(crate::proofs::Judging::missing_laws))]
 fn missing(required: u64, set: u64) -> Checked
-    ensures { result ≡ or_missing required set }
+    ensures { checked (Ok result) ≡ or_missing required set }
 {
-    let rest = difference(required, set);
+    let rest = sets::difference(required, set);
     if rest == 0 {
         return Checked::Obeys;
     }
-    Checked::Missing(lowest(rest))
-}
-
-// The verdict on a document that holds the paths of `set`.
-fn verdict(required: u64, set: u64, found: Break) -> Checked
-    ensures { result ≡ verdict required set found }
-{
-    match found {
-        Break::Broken(r, n) => Checked::Broken(r, n),
-        Break::Unbroken => missing(required, set),
-    }
+    Checked::Missing(sets::lowest(rest))
 }
 
 // The verdict on the parts that were read.
-fn judge(
-    rules: Rules,
-    parent: &[u8; 64],
-    s: &[u8],
-    parts: usize,
-    path: &[u8; PARTS],
-    place: &[usize; PARTS],
-) -> Checked
-    requires { (rules.rules ≤ 256) × (1 ≤ parts) × (parts ≤ part_limit) × Laid s.now path.now place.now parts }
-    ensures { result ≡ verdict rules.required
-        (get_or (held (entries_from s.now path.now place.now 0 parts)) 0 0)
-        (broken_from (parent_at parent.now) 0 (rules_of rules).rules
-        (entries_from s.now path.now place.now 0 parts)
-        (held (entries_from s.now path.now place.now 0 parts))) }
+#[tactic(auto, using(crate::proofs::Judging::judge_laws))]
+fn judge(rules: &Rules, parent: &[u8; 64], document: &[u8], parts: &Parts) -> Checked
+    requires { (rules.now.rules ≤ 256) × (1 ≤ parts.now.count) × (parts.now.count ≤ part_limit)
+        × Laid document.now parts.now.path parts.now.place parts.now.count }
+    ensures { checked (Ok result) ≡ verdict rules.now.required
+        (get_or (held (entries_from document.now parts.now.path parts.now.place 0 parts.now.count)) 0 0)
+        (broken_from (parent_at parent.now) 0 (rules_of rules.now).rules
+        (entries_from document.now parts.now.path parts.now.place 0 parts.now.count)
+        (held (entries_from document.now parts.now.path parts.now.place 0 parts.now.count))) }
 {
-    let mut sets = [0u64; PARTS];
-    let mut first = [NO_PART; 256];
-    let mut next = [NO_PART; PARTS];
-    hold_all(s, parts, path, place, &mut sets, &mut first, &mut next);
-    let kind = rules.kind;
-    let left = rules.left;
-    let right = rules.right;
-    let found = broken_rule(
-        &kind,
-        &left,
-        &right,
-        rules.rules,
-        parent,
-        parts,
-        &sets,
-        &first,
-        &next,
-    );
-    verdict(rules.required, sets[0], found)
+    let held = hold_all(document, parts);
+    match broken_rule(rules, parent, &held) {
+        Some((rule, part)) => Checked::Broken(rule, part),
+        None => missing(rules.required, held.sets[0]),
+    }
 }
 
 // The verdict on a document, by a table that is valid.
-fn check_parts(rules: Rules, document: &[u8]) -> Checked
-    requires { (1 ≤ rules.paths) × (rules.paths ≤ 64) × (rules.rules ≤ 256) }
-    ensures { result ≡ judged (parent_in (rules_of rules).paths) (rules_of rules).rules rules.required
-        (run_all (document_file (parent_in (rules_of rules).paths) rules.paths) document.now) }
+fn check_parts(rules: &Rules, document: &[u8]) -> Result<Checked, Refusal>
+    requires { (1 ≤ rules.now.paths) × (rules.now.paths ≤ 64) × (rules.now.rules ≤ 256) }
+    ensures { checked result ≡ judged (parent_in (rules_of rules.now).paths) (rules_of rules.now).rules rules.now.required
+        (run_all (document_file (parent_in (rules_of rules.now).paths) rules.now.paths) document.now) }
 {
-    let given = rules.parent;
-    let parent = parents(&given, rules.paths);
-    let mut path = [0u8; PARTS];
-    let mut place = [0usize; PARTS];
-    match read_document(
-        document,
-        &parent,
-        (rules.paths % 256) as u32,
-        &mut path,
-        &mut place,
-    ) {
-        Listed::Refused(why, at) => Checked::Refused(why, at),
-        Listed::Parts(parts) => judge(rules, &parent, document, parts, &path, &place),
-    }
+    let paths = Paths {
+        count: rules.paths as u32,
+        parent: parents(&rules.parent, rules.paths),
+    };
+    let mut parts = Parts {
+        count: 0,
+        path: [0; PARTS],
+        place: [0; PARTS],
+    };
+    read_document(document, &paths, &mut parts)?;
+    Ok(judge(rules, &paths.parent, document, &parts))
 }
 
-// A document of more bytes is refused with 14.
-const LONGEST: usize = 65536;
-
 // Whether a document obeys the rules and holds the required paths.
-pub fn check_document(rules: Rules, document: &[u8]) -> Checked
-    ensures { CheckDocument rules document.now result }
+pub fn check_document(rules: Rules, document: &[u8]) -> Result<Checked, Refusal>
+    ensures { CheckDocument rules document.now (checked result) }
 {
     if !valid_table(rules) {
-        return Checked::Refused(12, 0);
+        return Err(Condition::Table.at(0));
     }
     if LONGEST < document.len() {
-        return Checked::Refused(14, 0);
+        return Err(Condition::DocumentSize.at(0));
     }
-    check_parts(rules, document)
+    check_parts(&rules, document)
 }

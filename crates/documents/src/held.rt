@@ -1,77 +1,94 @@
 // From the last part to the first: the set of paths that each part holds, and the parts on each path in ascending order.
-ghost use Rattle.std.specs.Prelude.{◌+◌, ◌≤◌, ◌<◌, ◌≡◌, length, replicate};
-ghost use Rattle.documents.specs.Reading.{kids_from, kids_at};
+ghost use Rattle.std.specs.Prelude.{◌-◌, ◌≤◌, ◌<◌, ◌≡◌, None, IfSome, get_or};
+ghost use Rattle.std.specs.Iterator.{at_most};
+ghost use Rattle.documents.specs.Reading.{kids_at};
 ghost use Rattle.documents.specs.PartList.{part_limit};
-ghost use Rattle.documents.specs.Held.{set_at, held_among, Laid, Linked};
+ghost use Rattle.documents.specs.Held.{held_among, Laid, Linked, Linking, Rising, Inside, follow, part_number};
 
-use crate::document::PARTS;
-use files::number::{Number, read_number, wide, wide_number};
-use files::sets::{union, with};
+use crate::document::{PARTS, Parts};
+use files::reader::Reader;
+use files::sets;
 
-// The set of part k; none past the last slot.
-fn set_of(sets: &[u64; PARTS], k: usize) -> u64
-    ensures { result ≡ set_at sets.now k }
-{
-    if k < PARTS {
-        return sets[k];
-    }
-    0
+// The set of each part, the least part on each path, and for each part the next on its path: columns, as `held_among` and `follow`
+// speak of one each.
+#[derive(Clone, Copy)]
+pub(crate) struct Held {
+    pub sets: [u64; PARTS],
+    first: [Option<u16>; 256],
+    next: [Option<u16>; PARTS],
 }
 
-// All that the parts hold whose numbers, so many, stand at `at`.
-fn kids_hold(s: &[u8], at: usize, many: u32, sets: &[u64; PARTS]) -> u64
-    ensures { result ≡ held_among sets.now (kids_from s.now at many) }
-{
-    let mut set = 0u64;
-    let mut next = at;
-    let mut left = many;
-    while 0 < left {
-        match read_number(s, next) {
-            Number::Refused(_) => {
-                return set;
-            }
-            Number::Is(k, width) => {
-                set = union(set, set_of(sets, wide_number(k)));
-                next += width;
-                left -= 1;
-            }
+// The parts on a path from one on, ascending.
+#[derive(Clone, Copy, Drop)]
+pub(crate) struct OnPath<'a> {
+    next: &'a [Option<u16>; PARTS],
+    at: Option<u16>,
+    ghost rising: { Rising next.now },
+    ghost inside: { Inside at },
+}
+
+impl<'a> Iterator for OnPath<'a> {
+    type Item = usize;
+
+    ghost next_gives = { λ s r t. (r ≡ s.at) × IfSome r (λ n. n < part_limit) × (t.next ≡ s.next) × (t.at ≡ follow s.next.now s.at) };
+
+    ghost remaining = { λ s. at_most (part_limit - part_number s.at) };
+
+    fn next(&mut self) -> Option<usize> {
+        let part = usize::from(self.at?);
+        self.at = self.next[part];
+        Some(part)
+    }
+}
+
+impl Held {
+    pub(crate) fn on_path(&self, path: u8) -> OnPath<'_>
+        requires { Linking self.now.first self.now.next }
+        ensures { (result.next.now ≡ self.now.next) × (result.at ≡ get_or self.now.first path None) }
+    {
+        OnPath {
+            next: &self.next,
+            at: self.first[usize::from(path)],
         }
+    }
+}
+
+// All that the children hold whose count stands at `at`.
+fn children_hold(document: &[u8], at: usize, held: &[u64; PARTS]) -> u64
+    ensures { result ≡ held_among held.now (kids_at document.now at) }
+{
+    let mut reader = Reader {
+        bytes: document,
+        at,
+    };
+    let Ok(many) = reader.number() else {
+        return 0;
+    };
+    let mut set = 0u64;
+    for _ in 0..many {
+        let Ok(kid) = reader.number() else {
+            return set;
+        };
+        set = sets::union(set, held.get(kid as usize).copied().unwrap_or(0));
     }
     set
 }
 
-// All that the children hold whose count stands at `at`.
-fn children_hold(s: &[u8], at: usize, sets: &[u64; PARTS]) -> u64
-    ensures { result ≡ held_among sets.now (kids_at s.now at) }
+// What the parts of a document hold, and the parts on each path.
+pub(crate) fn hold_all(document: &[u8], parts: &Parts) -> Held
+    requires { (parts.now.count ≤ part_limit) × Laid document.now parts.now.path parts.now.place parts.now.count }
+    ensures { Linked document.now parts.now.path parts.now.place parts.now.count 0 result.sets result.first result.next }
 {
-    match read_number(s, at) {
-        Number::Refused(_) => 0,
-        Number::Is(many, width) => kids_hold(s, at + width, many, sets),
+    let mut held = Held {
+        sets: [0; PARTS],
+        first: [None; 256],
+        next: [None; PARTS],
+    };
+    for n in (0..parts.count).rev() {
+        let path = usize::from(parts.path[n]);
+        held.sets[n] = sets::with(children_hold(document, parts.place[n], &held.sets), path);
+        held.next[n] = held.first[path];
+        held.first[path] = Some(n as u16);
     }
-}
-
-// The sets of so many parts, the least part on each path, and for each part the next on its path; the part limit where there is none.
-pub(crate) fn hold_all(
-    s: &[u8],
-    parts: usize,
-    path: &[u8; PARTS],
-    place: &[usize; PARTS],
-    sets: &mut [u64; PARTS],
-    first: &mut [u16; 256],
-    next: &mut [u16; PARTS],
-)
-    requires { (parts ≤ part_limit) × Laid s.now path.now place.now parts
-        × (length sets.old ≡ part_limit) × (first.old ≡ replicate 256 part_limit) × (length next.old ≡ part_limit) }
-    ensures { Linked s.now path.now place.now parts 0 sets.new first.new
-        next.new }
-{
-    let mut n = parts;
-    while 0 < n {
-        n -= 1;
-        let p = wide(path[n]);
-        let set = children_hold(s, place[n], sets);
-        sets[n] = with(set, p);
-        next[n] = first[p];
-        first[p] = (n % PARTS) as u16;
-    }
+    held
 }

@@ -4,16 +4,16 @@ use mathlib.Core.Path.{◌≡◌, sym, ap, subst, ◌∙◌}
 use mathlib.Core.List.{List, ◌++◌}
 use lib.ListN.{length, drop}
 use borrow.Author.Tests.{le-leb, lt-leb}
-use Rattle.files.specs.declared.read.Answer.{Answer}
+use Rattle.files.specs.Reading.{Answer}
 use Rattle.files.specs.declared.rules.Rules.{Rules}
-use Rattle.files.specs.declared.write.Written.{Written}
+use Rattle.files.specs.Writing.{Written}
 use Rattle.files.specs.Reading.{read_answer}
 use Rattle.files.specs.RuleFile.{file_of}
 use Rattle.files.specs.Rules.{ValidTable, table_of}
 use Rattle.files.specs.Writing.{write_answer, Put, put}
 use Rattle.files.proofs.TableStructs.{rules_of_table, table_valid, table_word, write_valid}
-use Rattle.reasoning.specs.declared.consistency.Verdict.{Verdict}
-use Rattle.reasoning.specs.declared.question.Reply.{Reply}
+use Rattle.reasoning.specs.Verdict.{Verdict}
+use Rattle.reasoning.specs.Reply.{Reply}
 use Rattle.entry.specs.Calls.{OverFile, Rewrites, Decides, Asks}
 use Rattle.entry.specs.Numbers.{three, written_numbers}
 

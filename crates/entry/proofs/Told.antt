@@ -1,10 +1,10 @@
 -- The three numbers of a call determine its answer: no two answers are told alike.
 use Prim.Native.Nat.{ℕ}
 use mathlib.Core.Path.{◌≡◌, refl}
-use Rattle.files.specs.declared.write.Written.{Written}
-use Rattle.documents.specs.declared.check.Checked.{Checked}
-use Rattle.reasoning.specs.declared.consistency.Verdict.{Verdict}
-use Rattle.reasoning.specs.declared.question.Reply.{Reply}
+use Rattle.files.specs.Writing.{Written}
+use Rattle.documents.specs.Answers.{Checked}
+use Rattle.reasoning.specs.Verdict.{Verdict}
+use Rattle.reasoning.specs.Reply.{Reply}
 use Rattle.entry.specs.Numbers.{refusal_numbers, written_numbers, checked_numbers, verdict_numbers, reply_numbers}
 
 pub refusal_told : (k at k' at' : ℕ) → refusal_numbers k at ≡ refusal_numbers k' at' → (k ≡ k') × (at ≡ at')

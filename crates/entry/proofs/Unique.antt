@@ -2,7 +2,7 @@
 use Prim.Native.Nat.{ℕ}
 use mathlib.Core.Path.{◌≡◌, refl, ap, sym, ◌∙◌}
 use mathlib.Core.List.{List}
-use Rattle.files.specs.declared.read.Answer.{Answer}
+use Rattle.files.specs.Reading.{Answer}
 use Rattle.files.specs.declared.rules.Rules.{Rules}
 use Rattle.files.specs.Reading.{read_answer}
 use Rattle.files.proofs.WritingJoins.{write_unique}

@@ -1,14 +1,14 @@
 -- What the calls over bytes answer, what the lent buffer then holds, and what that means.
 use Rattle.std.specs.Prelude.{ℕ, ◌≡◌, List}
-use Rattle.files.specs.declared.read.Answer.{Answer}
+use Rattle.files.specs.Reading.{Answer}
 use Rattle.files.specs.declared.rules.Rules.{Rules}
-use Rattle.files.specs.declared.write.Written.{Written}
+use Rattle.files.specs.Writing.{Written}
 use Rattle.files.specs.Reading.{read_answer, ReadRules}
 use Rattle.files.specs.Writing.{WriteRules}
-use Rattle.documents.specs.declared.check.Checked.{Checked}
+use Rattle.documents.specs.Answers.{Checked}
 use Rattle.documents.specs.Checking.{CheckDocument}
-use Rattle.reasoning.specs.declared.consistency.Verdict.{Verdict}
-use Rattle.reasoning.specs.declared.question.Reply.{Reply}
+use Rattle.reasoning.specs.Verdict.{Verdict}
+use Rattle.reasoning.specs.Reply.{Reply}
 use Rattle.reasoning.specs.Calls.{DecidesConsistency, AnswersQuestion}
 use Rattle.entry.specs.Numbers.{refusal_numbers, written_numbers, checked_numbers, verdict_numbers, reply_numbers}
 

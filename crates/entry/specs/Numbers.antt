@@ -1,9 +1,9 @@
 -- The three numbers of an answer, by cases: which answer it is, and its two values. 0 is a refusal.
 use Rattle.std.specs.Prelude.{ℕ, List, [], ◌∷◌}
-use Rattle.files.specs.declared.write.Written.{Written}
-use Rattle.documents.specs.declared.check.Checked.{Checked}
-use Rattle.reasoning.specs.declared.consistency.Verdict.{Verdict}
-use Rattle.reasoning.specs.declared.question.Reply.{Reply}
+use Rattle.files.specs.Writing.{Written}
+use Rattle.documents.specs.Answers.{Checked}
+use Rattle.reasoning.specs.Verdict.{Verdict}
+use Rattle.reasoning.specs.Reply.{Reply}
 
 -- three numbers
 abbrev pub three : (which first second : ℕ) → List ℕ

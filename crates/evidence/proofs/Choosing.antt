@@ -2,15 +2,16 @@
 use Prim.Native.Nat.{ℕ, suc, ◌+◌, ◌-◌, ◌≤◌, ◌<◌}
 use mathlib.Core.Path.{◌≡◌, refl, sym, ap, ◌∙◌}
 use mathlib.Core.Bool.{Bool, true, false, not}
+use Rattle.std.specs.Prelude.{Option, Some, None}
 use mathlib.Core.List.{List}
 use native.Mathlib.Omega.{arith}
 use native.Mathlib.Numerals.{add-one}
-use lib.Dec.{eqb}
-use borrow.Author.Tests.{eq-eqb, ne_eqb}
-use Rattle.files.specs.Sets.{hasb, union, common, members}
+use lib.Dec.{eqb, ltb}
+use borrow.Author.Tests.{eq-eqb, ne_eqb, lt-ltb, le-ltb}
+use Rattle.files.specs.Sets.{hasb, union, common, members, join_words}
 use Rattle.theory.specs.Least.{first_from, least, some_in}
 use Rattle.reachable.specs.Sheet.{row, set_at, left_in, right_in, place_in, absences_in}
-use Rattle.evidence.specs.Choices.{join_words, clash_in, clash_below, clashing_in, row_passes, first_row, clashes_at, clashes_in, dead_needed, straight_in, pair_in, reachers_in, root_in}
+use Rattle.evidence.specs.Choices.{clash_in, clash_below, clashing_in, row_passes, first_row, first_word, clashes_at, clashes_in, dead_needed, straight_in, pair_in, reachers_in, root_in}
 
 -- ---- clashes
 
@@ -38,33 +39,46 @@ pub ruleset below_laws = (below_start, below_on, below_end)
 
 -- ---- the first row that passes
 
-pub row_start : (sheet : List ℕ) (test : ℕ → Bool) (n : ℕ) → n ≡ absences_in sheet → first_from (row_passes sheet test) (n - 0) 0 ≡ first_row sheet test
+pub row_start : (sheet : List ℕ) (test : ℕ → Bool) → first_from (row_passes sheet test) (absences_in sheet - 0) 0 ≡ first_row sheet test
 unfolding first_row least
-row_start sheet test n e = ap (λ (k : ℕ). first_from (row_passes sheet test) k 0) ((let d : n - 0 ≡ n = omega arith in d) ∙ e)
+row_start sheet test = ap (λ (k : ℕ). first_from (row_passes sheet test) k 0) (let d : absences_in sheet - 0 ≡ absences_in sheet = omega arith in d)
 
-module _ (sheet : List ℕ) (test : ℕ → Bool) (n j v : ℕ) (inv : first_from (row_passes sheet test) (n - j) j ≡ v) where
-  module _ (w : ℕ) (t : Bool) (more : j < n) (word : w ≡ row 1408 sheet j) (is : t ≡ test w) where
+-- the word of row number j, if there is such a row
+word_of : (sheet : List ℕ) (j : ℕ) → Option ℕ
+word_of sheet j = elim (ltb j (absences_in sheet)) [ true ↦ Some (row 1408 sheet j) | false ↦ None ]
+
+word_is : (sheet : List ℕ) (test : ℕ → Bool) (j : ℕ) → first_row sheet test ≡ j → word_of sheet j ≡ first_word sheet test
+unfolding first_word word_of
+word_is sheet test j e = ap (word_of sheet) (sym e)
+
+module _ (sheet : List ℕ) (test : ℕ → Bool) (j : ℕ) (inv : first_from (row_passes sheet test) (absences_in sheet - j) j ≡ first_row sheet test) where
+  module _ (w : ℕ) (t : Bool) (more : j < absences_in sheet) (word : w ≡ row 1408 sheet j) (is : t ≡ test w) where
     row_test : row_passes sheet test j ≡ t
     unfolding row_passes
     row_test = ap test (sym word) ∙ sym is
 
-    left : n - j ≡ suc (n - (j + 1))
+    left : absences_in sheet - j ≡ suc (absences_in sheet - (j + 1))
     left = omega arith
 
-    pub row_found : t ≡ true → j ≡ v
-    unfolding first_from
-    row_found h = sym (ap (λ (k : ℕ). first_from (row_passes sheet test) k j) left ∙ rw (first_from, row_test, h)) ∙ inv
+    pub row_found : t ≡ true → Some w ≡ first_word sheet test
+    unfolding first_from word_of
+    row_found h =
+        ap Some word
+        ∙ (let e : Some (row 1408 sheet j) ≡ word_of sheet j = rw (word_of, lt-ltb j (absences_in sheet) more) in e)
+        ∙ word_is sheet test j (sym inv ∙ ap (λ (k : ℕ). first_from (row_passes sheet test) k j) left ∙ rw (first_from, row_test, h))
 
-    pub row_on : t ≡ false → first_from (row_passes sheet test) (n - (j + 1)) (j + 1) ≡ v
+    pub row_on : t ≡ false → first_from (row_passes sheet test) (absences_in sheet - (j + 1)) (j + 1) ≡ first_row sheet test
     unfolding first_from
     row_on h =
-        ap (λ (k : ℕ). first_from (row_passes sheet test) (n - (j + 1)) k) (add-one j)
+        ap (λ (k : ℕ). first_from (row_passes sheet test) (absences_in sheet - (j + 1)) k) (add-one j)
         ∙ sym (ap (λ (k : ℕ). first_from (row_passes sheet test) k j) left ∙ rw (first_from, row_test, h))
         ∙ inv
 
-  pub row_end : j ≤ n → n ≤ j → n ≡ v
-  unfolding first_from
-  row_end h k = (let e : n ≡ j = omega arith in e) ∙ rw (let e : n - j ≡ 0 = omega arith in e) at inv
+  pub row_end : absences_in sheet ≤ j → None ≡ first_word sheet test
+  unfolding first_from word_of
+  row_end h =
+      (let e : None ≡ word_of sheet j = rw (word_of, le-ltb j (absences_in sheet) h) in e)
+      ∙ word_is sheet test j (sym inv ∙ rw (let d : absences_in sheet - j ≡ 0 = omega arith in d))
 
 pub ruleset row_laws = (row_start, row_found, row_on, row_end)
 

@@ -1,149 +1,113 @@
 -- Laws of grounds written in numbers.
 use Prim.Native.Nat.{ℕ, suc, ◌+◌, ◌≤◌, ◌<◌}
-use mathlib.Core.Path.{◌≡◌, refl, sym, ap₂, ◌∙◌}
-use mathlib.Core.List.{List, ◌∷◌, ◌++◌}
+use mathlib.Core.Path.{◌≡◌, sym, ap, subst}
+use mathlib.Core.List.{List, [], ◌∷◌, ◌++◌, append-nil, append_assoc}
 use native.Mathlib.Omega.{arith}
-use native.Mathlib.Numerals.{add-one, add-two, add-three, add-four, add_five}
-use lib.ListN.{set, length-append}
-use lib.Seq.{sets}
-use borrow.Author.Tests.{ne_eqb}
-use Rattle.files.proofs.Stores.{sets_append}
+use lib.ListN.{length, length-append}
+use Rattle.std.specs.Prelude.{Option, Some, None}
 use Rattle.theory.specs.Evidence.{walk_numbers}
-use Rattle.reachable.specs.Sheet.{context_in, rule_in, left_in, right_in, place_in}
+use Rattle.reachable.specs.Sheet.{context_in, rule_in, place_in}
 use Rattle.evidence.specs.declared.ground.Ground.{Ground}
-use Rattle.evidence.specs.declared.ground.Ground.TheVariants.{None, Direct, Dead, Pair}
+use Rattle.evidence.specs.declared.ground.Ground.TheVariants.{Direct, Dead, Pair}
 use Rattle.evidence.specs.Nearer.{walk_on}
 use Rattle.evidence.specs.Stored.{Stored}
 use Rattle.evidence.specs.Grounds.{InRange, first_end, second_end, direct_on, end_numbers, dead_on, pair_on, ground_numbers}
 
 -- ---- numbers one after the other
 
-pub stored_append : (ns ms before mid after : List ℕ) (a b start next r : ℕ) → Stored ns a before start mid next → Stored ms b mid next after r
-    → Stored (ns ++ ms) (a + b) before start after r
-stored_append ns ms before mid after a b start next r f g = record {
-  end = omega (arith, f.end, g.end, length-append ns ms);
-  room = omega (arith, f.room, g.room);
-  numbers =
-      g.numbers
-      ∙ ap₂ (λ (l : List ℕ) (k : ℕ). sets l k ms) f.numbers f.end
-      ∙ sym (sets_append ns ms before start);
+pub stored_length : (ns before after : List ℕ) (most : ℕ) → Stored ns most before after → length after ≤ length before + most
+stored_length ns before after most f = omega (arith, f.few, ap length f.numbers, length-append before ns)
+
+stored_append : (ns ms before mid after : List ℕ) (a b : ℕ) → Stored ns a before mid → Stored ms b mid after → Stored (ns ++ ms) (a + b) before after
+stored_append ns ms before mid after a b f g = record {
+  few = omega (arith, f.few, g.few, length-append ns ms);
+  numbers = rw (g.numbers, f.numbers) (append_assoc before ns ms);
 }
 
-stored_more : (ns before after : List ℕ) (a b start n : ℕ) → a ≤ b → Stored ns a before start after n → Stored ns b before start after n
-stored_more ns before after a b start n h f = record { end = f.end; room = omega (arith, f.room); numbers = f.numbers }
+stored_more : (ns before after : List ℕ) (a b : ℕ) → a ≤ b → Stored ns a before after → Stored ns b before after
+stored_more ns before after a b h f = record { few = omega (arith, f.few); numbers = f.numbers }
 
-module _ (ns before after : List ℕ) (most start r : ℕ) where
-  stored_one : (a : ℕ) → Stored ns most (set before start a) (start + 1) after r → Stored (a ∷ ns) (suc most) before start after r
-  stored_one a f = record {
-    end = omega (arith, f.end);
-    room = omega (arith, f.room);
-    numbers = rw (add-one start) at f.numbers;
-  }
-
-  stored_four : (a b c d : ℕ)
-      → Stored ns most (set (set (set (set before start a) (start + 1) b) (start + 2) c) (start + 3) d) (start + 4) after r
-      → Stored (a ∷ (b ∷ (c ∷ (d ∷ ns)))) (4 + most) before start after r
-  stored_four a b c d f = record {
-    end = omega (arith, f.end);
-    room = omega (arith, f.room);
-    numbers = rw (add-one start, add-two start, add-three start, add-four start) at f.numbers;
-  }
-
-  stored_five : (a b c d e : ℕ)
-      → Stored ns most (set (set (set (set (set before start a) (start + 1) b) (start + 2) c) (start + 3) d) (start + 4) e) (start + 5) after r
-      → Stored (a ∷ (b ∷ (c ∷ (d ∷ (e ∷ ns))))) (5 + most) before start after r
-  stored_five a b c d e f = record {
-    end = omega (arith, f.end);
-    room = omega (arith, f.room);
-    numbers = rw (add-one start, add-two start, add-three start, add-four start, add_five start) at f.numbers;
-  }
+stored_one : (ns before mid after : List ℕ) (most a : ℕ) → mid ≡ before ++ a ∷ [] → Stored ns most mid after → Stored (a ∷ ns) (suc most) before after
+stored_one ns before mid after most a e f = record { few = omega (arith, f.few); numbers = rw (f.numbers, e) (append_assoc before (a ∷ []) ns) }
 
 -- ---- each kind of evidence
 
 module _ (sheet : List ℕ) where
-  pub direct_stored : (p q c start r : ℕ) (before after : List ℕ) → c ≡ context_in sheet p q
-      → Stored (walk_numbers (walk_on sheet c p q)) 65 (set before start 1) (start + 1) after r
-      → Stored (direct_on sheet p q) 66 before start after r
+  pub direct_stored : (p q c : ℕ) (before mid after : List ℕ) → c ≡ context_in sheet p q → mid ≡ before ++ 1 ∷ []
+      → Stored (walk_numbers (walk_on sheet c p q)) 65 mid after → Stored (direct_on sheet p q) 66 before after
   unfolding direct_on
-  direct_stored p q c start r before after is f = rw (← is) (stored_one (walk_numbers (walk_on sheet c p q)) before after 65 start r 1 f)
+  direct_stored p q c before mid after is e f = rw (← is) (stored_one (walk_numbers (walk_on sheet c p q)) before mid after 65 1 e f)
 
-  pub ends_stored : (w x y side a b c start next n : ℕ) (before mid after : List ℕ) → a ≡ place_in w → b ≡ first_end w side → c ≡ second_end w side
-      → Stored (walk_numbers (walk_on sheet a x b)) 65 before start mid next → Stored (walk_numbers (walk_on sheet a y c)) 65 mid next after n
-      → Stored (end_numbers sheet w x y side) 130 before start after n
+  pub ends_stored : (w x y side a b c : ℕ) (before mid after : List ℕ) → a ≡ place_in w → b ≡ first_end w side → c ≡ second_end w side
+      → Stored (walk_numbers (walk_on sheet a x b)) 65 before mid → Stored (walk_numbers (walk_on sheet a y c)) 65 mid after
+      → Stored (end_numbers sheet w x y side) 130 before after
   unfolding end_numbers
-  ends_stored w x y side a b c start next n before mid after e f g h k =
-      rw (← e, ← f, ← g) (stored_append _ _ before mid after 65 65 start next n h k)
+  ends_stored w x y side a b c before mid after e f g h k = rw (← e, ← f, ← g) (stored_append _ _ before mid after 65 65 h k)
 
-  pub dead_stored : (p y w r start next n : ℕ) (before mid after : List ℕ) → r ≡ rule_in w
-      → Stored (walk_numbers (walk_on sheet 0 p y)) 65 (set (set (set (set before start 2) (start + 1) p) (start + 2) y) (start + 3) r) (start + 4) mid next
-      → Stored (end_numbers sheet w y y 0) 130 mid next after n → Stored (dead_on sheet p y w) 199 before start after n
+  pub dead_stored : (p y w r : ℕ) (before a b c d mid after : List ℕ) → r ≡ rule_in w → a ≡ before ++ 2 ∷ [] → b ≡ a ++ p ∷ [] → c ≡ b ++ y ∷ []
+      → d ≡ c ++ r ∷ [] → Stored (walk_numbers (walk_on sheet 0 p y)) 65 d mid → Stored (end_numbers sheet w y y 0) 130 mid after
+      → Stored (dead_on sheet p y w) 199 before after
   unfolding dead_on
-  dead_stored p y w r start next n before mid after e f g =
-      rw (← e) (stored_four _ before after 195 start n 2 p y r (stored_append _ _ _ mid after 65 130 (start + 4) next n f g))
+  dead_stored p y w r before a b c d mid after e f g h k m n =
+      rw (← e)
+      (stored_one _ before a after 198 2 f
+      (stored_one _ a b after 197 p g
+      (stored_one _ b c after 196 y h (stored_one _ c d after 195 r k (stored_append _ _ d mid after 65 130 m n)))))
 
-  pub pair_stored : (x y w side r start n : ℕ) (before after : List ℕ) → r ≡ rule_in w
-      → Stored (end_numbers sheet w x y side) 130
-      (set (set (set (set (set before start 3) (start + 1) x) (start + 2) y) (start + 3) r) (start + 4) side) (start + 5) after n
-      → Stored (pair_on sheet x y w side) 135 before start after n
+  pub pair_stored : (x y w side r : ℕ) (before a b c d z after : List ℕ) → r ≡ rule_in w → a ≡ before ++ 3 ∷ [] → b ≡ a ++ x ∷ [] → c ≡ b ++ y ∷ []
+      → d ≡ c ++ r ∷ [] → z ≡ d ++ side ∷ [] → Stored (end_numbers sheet w x y side) 130 z after
+      → Stored (pair_on sheet x y w side) 135 before after
   unfolding pair_on
-  pair_stored x y w side r start n before after e f = rw (← e) (stored_five _ before after 130 start n 3 x y r side f)
+  pair_stored x y w side r before a b c d z after e f g h k m n =
+      rw (← e)
+      (stored_one _ before a after 134 3 f
+      (stored_one _ a b after 133 x g (stored_one _ b c after 132 y h (stored_one _ c d after 131 r k (stored_one _ d z after 130 side m n)))))
 
-pub ruleset stored_laws = (direct_stored, ends_stored, dead_stored, pair_stored)
-
-module _ (w side : ℕ) where
-  pub first_straight : (r : ℕ) → side ≡ 0 → r ≡ left_in w → r ≡ first_end w side
-  unfolding first_end
-  first_straight r h e = rw h e
-
-  pub first_crossed : (r : ℕ) → (side ≡ 0 → ⊥) → r ≡ right_in w → r ≡ first_end w side
-  unfolding first_end
-  first_crossed r h e = rw (first_end, ne_eqb side 0 h) e
-
-  pub second_straight : (r : ℕ) → side ≡ 0 → r ≡ right_in w → r ≡ second_end w side
-  unfolding second_end
-  second_straight r h e = rw h e
-
-  pub second_crossed : (r : ℕ) → (side ≡ 0 → ⊥) → r ≡ left_in w → r ≡ second_end w side
-  unfolding second_end
-  second_crossed r h e = rw (second_end, ne_eqb side 0 h) e
-
-pub ruleset end_laws = (first_straight, first_crossed, second_straight, second_crossed)
+pub ruleset stored_laws = (stored_length, direct_stored, ends_stored, dead_stored, pair_stored)
 
 -- ---- a ground
 
-module _ (sheet : List ℕ) (g : Ground) (start : ℕ) (before : List ℕ) where
-  pub none_stored : g ≡ None → Stored (ground_numbers sheet g) 199 before start before start
+module _ (sheet : List ℕ) (g : Ground) (before after : List ℕ) where
+  pub direct_ground : {p q : ℕ} → g ≡ Direct p q → Stored (direct_on sheet p q) 66 before after → Stored (ground_numbers sheet (Some g)) 199 before after
   unfolding ground_numbers
-  none_stored e = rw e (record { end = omega arith; room = omega arith; numbers = refl })
+  direct_ground e f = rw e (stored_more _ before after 66 199 (omega arith) f)
 
-  module _ (n : ℕ) (after : List ℕ) where
-    pub direct_ground : {p q : ℕ} → g ≡ Direct p q → Stored (direct_on sheet p q) 66 before start after n
-        → Stored (ground_numbers sheet g) 199 before start after n
-    unfolding ground_numbers
-    direct_ground e f = rw e (stored_more _ before after 66 199 start n (omega arith) f)
+  pub dead_ground_lem : {p y w : ℕ} → g ≡ Dead p y w → Stored (dead_on sheet p y w) 199 before after → Stored (ground_numbers sheet (Some g)) 199 before after
+  unfolding ground_numbers
+  dead_ground_lem e f = rw e f
 
-    pub dead_ground_lem : {p y w : ℕ} → g ≡ Dead p y w → Stored (dead_on sheet p y w) 199 before start after n
-        → Stored (ground_numbers sheet g) 199 before start after n
-    unfolding ground_numbers
-    dead_ground_lem e f = rw e f
+  pub pair_ground_lem : {x y w side : ℕ} → g ≡ Pair x y w side → Stored (pair_on sheet x y w side) 135 before after
+      → Stored (ground_numbers sheet (Some g)) 199 before after
+  unfolding ground_numbers
+  pair_ground_lem e f = rw e (stored_more _ before after 135 199 (omega arith) f)
 
-    pub pair_ground_lem : {x y w side : ℕ} → g ≡ Pair x y w side → Stored (pair_on sheet x y w side) 135 before start after n
-        → Stored (ground_numbers sheet g) 199 before start after n
-    unfolding ground_numbers
-    pair_ground_lem e f = rw e (stored_more _ before after 135 199 start n (omega arith) f)
+module _ (g : Ground) (n : ℕ) (range : InRange (Some g)) (low : n ≤ 200) where
+  pub direct_range : {p q : ℕ} → g ≡ Direct p q → (p < 64) × (q < 64) × (n ≤ 200)
+  direct_range e = let r = range.direct _ _ (ap Some e) in (r.0, r.1, low)
 
-module _ (g : Ground) (start : ℕ) (range : InRange g) (low : start ≤ 200) where
-  pub direct_range : {p q : ℕ} → g ≡ Direct p q → (p < 64) × (q < 64) × (start ≤ 200)
-  direct_range e = let r = range.direct _ _ e in (r.0, r.1, low)
+  pub dead_range : {p y w : ℕ} → g ≡ Dead p y w → (p < 64) × (y < 64) × (n ≤ 200)
+  dead_range e = let r = range.dead _ _ _ (ap Some e) in (r.0, r.1, low)
 
-  pub dead_range : {p y w : ℕ} → g ≡ Dead p y w → (p < 64) × (y < 64) × (start ≤ 200)
-  dead_range e = let r = range.dead _ _ _ e in (r.0, r.1, low)
+  pub pair_range : {x y w side : ℕ} → g ≡ Pair x y w side → (x < 64) × (y < 64) × (side ≤ 1) × (n ≤ 200)
+  pair_range e = let r = range.pair _ _ _ _ (ap Some e) in (r.0, r.1, r.2, low)
 
-  pub pair_range : {x y w side : ℕ} → g ≡ Pair x y w side → (x < 64) × (y < 64) × (side ≤ 1) × (start ≤ 200)
-  pair_range e = let r = range.pair _ _ _ _ e in (r.0, r.1, r.2, low)
+pub ruleset ground_laws = (direct_ground, dead_ground_lem, pair_ground_lem)
 
-pub ruleset ground_laws = (none_stored, direct_ground, dead_ground_lem, pair_ground_lem)
+module _ (sheet : List ℕ) (g : Option Ground) (before : List ℕ) where
+  pub none_stored : g ≡ None → Stored (ground_numbers sheet g) 199 before before
+  unfolding ground_numbers
+  none_stored e = rw e (record { few = omega arith; numbers = sym (append-nil before) })
 
-pub both_stored : (ns ms before mid after : List ℕ) (next n : ℕ) → Stored ns 199 before 0 mid next → Stored ms 199 mid next after n
-    → Stored (ns ++ ms) 398 before 0 after n
-both_stored ns ms before mid after next n f g = stored_append ns ms before mid after 199 199 0 next n f g
+  pub some_stored : {h : Ground} (after : List ℕ) → g ≡ Some h → Stored (ground_numbers sheet (Some h)) 199 before after
+      → Stored (ground_numbers sheet g) 199 before after
+  some_stored after e f = rw e f
+
+pub ruleset given_laws = (none_stored, some_stored)
+
+pub both_stored : (ns ms before mid after : List ℕ) → before ≡ [] → Stored ns 199 before mid → Stored ms 199 mid after → Stored (ns ++ ms) 398 [] after
+both_stored ns ms before mid after e f g = subst (λ (l : List ℕ). Stored (ns ++ ms) 398 l after) e (stored_append ns ms before mid after 199 199 f g)
+
+pub both_room : (ns before mid : List ℕ) → before ≡ [] → Stored ns 199 before mid → length mid ≤ 200
+both_room ns before mid e f = omega (arith, stored_length ns before mid 199 f, ap length e)
+
+pub ruleset both_laws = (both_room, both_stored)

@@ -22,9 +22,10 @@ use Rattle.theory.proofs.Least.{passing_iff, passing_small, some_lowest}
 use Rattle.reachable.specs.Sheet.{row, absence_at, rule_in, left_in, right_in, place_in, absences_in}
 use Rattle.reachable.specs.SheetWords.{Says}
 use Rattle.evidence.specs.declared.ground.Ground.{Ground}
-use Rattle.evidence.specs.declared.ground.Ground.TheVariants.{None, Direct, Dead, Pair}
+use Rattle.evidence.specs.declared.ground.Ground.TheVariants.{Direct, Dead, Pair}
+use Rattle.std.specs.Prelude.{Option, Some, None, is_some}
 use Rattle.evidence.specs.Choices.{first_row, clashes_at, clashes_in, dead_needed, pair_in, reachers_in, root_in}
-use Rattle.evidence.specs.Grounds.{given, or_else, says_yes, InRange, first_end, second_end, row_ground, dead_at, dead_from, dead_ground, pair_with, pair_ground, root_with, root_ground, implication_ground, exclusion_ground, grounds_on, dead_lowest, conflict_ground, end_numbers, dead_on, pair_on, ground_numbers}
+use Rattle.evidence.specs.Grounds.{or_else, says_yes, InRange, first_end, second_end, row_ground, dead_at, dead_from, dead_ground, pair_with, pair_ground, root_with, root_ground, implication_ground, exclusion_ground, grounds_on, dead_lowest, conflict_ground, end_numbers, dead_on, pair_on, ground_numbers}
 use Rattle.evidence.proofs.Walking.{true_of, T_true, walk_same, direct_same, direct_numbers_lem}
 use Rattle.evidence.proofs.Joins.{row_place, row_left, row_right, left_low, right_low, place_low, straight_same, clash_found, clash_rule_lem, from_same, from_clash, needed_same, pair_found, pair_rule_lem, reachers_some, reachers_lowest, root_found, root_rule_lem, root_passes}
 
@@ -37,21 +38,21 @@ none_range = record {
   pair = λ x y w side e. absurd (let z : ◌≡◌ {A = ℕ} 0 1 = cc in omega arith);
 }
 
-pub direct_range : (a b : ℕ) → a < 64 → b < 64 → InRange (Direct a b)
+pub direct_range : (a b : ℕ) → a < 64 → b < 64 → InRange (Some (Direct a b))
 direct_range a b h k = record {
   direct = λ p q e. let f : a ≡ p = cc in let g : b ≡ q = cc in (omega arith, omega arith);
   dead = λ p y w e. absurd (let z : ◌≡◌ {A = ℕ} 0 1 = cc in omega arith);
   pair = λ x y w side e. absurd (let z : ◌≡◌ {A = ℕ} 0 1 = cc in omega arith);
 }
 
-dead_range : (a b v : ℕ) → a < 64 → b < 64 → InRange (Dead a b v)
+dead_range : (a b v : ℕ) → a < 64 → b < 64 → InRange (Some (Dead a b v))
 dead_range a b v h k = record {
   direct = λ p q e. absurd (let z : ◌≡◌ {A = ℕ} 0 1 = cc in omega arith);
   dead = λ p y w e. let f : a ≡ p = cc in let g : b ≡ y = cc in (omega arith, omega arith);
   pair = λ x y w side e. absurd (let z : ◌≡◌ {A = ℕ} 0 1 = cc in omega arith);
 }
 
-pair_range : (a b v s : ℕ) → a < 64 → b < 64 → s ≤ 1 → InRange (Pair a b v s)
+pair_range : (a b v s : ℕ) → a < 64 → b < 64 → s ≤ 1 → InRange (Some (Pair a b v s))
 pair_range a b v s h k l = record {
   direct = λ p q e. absurd (let z : ◌≡◌ {A = ℕ} 0 1 = cc in omega arith);
   dead = λ p y w e. absurd (let z : ◌≡◌ {A = ℕ} 0 1 = cc in omega arith);
@@ -60,26 +61,26 @@ pair_range a b v s h k l = record {
 
 -- ---- one of two grounds
 
-module _ (g h : Ground) where
-  or_first : given g ≡ true → or_else g h ≡ g
+module _ (g h : Option Ground) where
+  or_first : is_some g ≡ true → or_else g h ≡ g
   unfolding or_else
   or_first e = rw (or_else, e)
 
-  or_second : given g ≡ false → or_else g h ≡ h
+  or_second : is_some g ≡ false → or_else g h ≡ h
   unfolding or_else
   or_second e = rw (or_else, e)
 
-  or_given : given (or_else g h) ≡ (given g || given h)
-  or_given = pick (given g) refl
+  or_given : is_some (or_else g h) ≡ (is_some g || is_some h)
+  or_given = pick (is_some g) refl
     where
-      pick : (b : Bool) → given g ≡ b → given (or_else g h) ≡ (given g || given h)
+      pick : (b : Bool) → is_some g ≡ b → is_some (or_else g h) ≡ (is_some g || is_some h)
       pick true e = rw (or_first e, e)
       pick false e = rw (or_second e, e)
 
   or_range : InRange g → InRange h → InRange (or_else g h)
-  or_range r s = pick (given g) refl
+  or_range r s = pick (is_some g) refl
     where
-      pick : (b : Bool) → given g ≡ b → InRange (or_else g h)
+      pick : (b : Bool) → is_some g ≡ b → InRange (or_else g h)
       pick true e = rw (or_first e) r
       pick false e = rw (or_second e) s
 
@@ -134,7 +135,7 @@ module _ {parent : ℕ → ℕ} {rules : List Rule} {count : ℕ} (fits : Fits p
         )
 
   -- a row that is there makes its ground
-  row_made : (make : ℕ → Ground) (j : ℕ) → j < absences_in sheet → row_ground sheet make j ≡ make (row absence_at sheet j)
+  row_made : (make : ℕ → Ground) (j : ℕ) → j < absences_in sheet → row_ground sheet make j ≡ Some (make (row absence_at sheet j))
   unfolding row_ground
   row_made make j h = rw (row_ground, lt-ltb j (absences_in sheet) h)
 
@@ -145,7 +146,7 @@ module _ {parent : ℕ → ℕ} {rules : List Rule} {count : ℕ} (fits : Fits p
   -- ---- dead
 
   at_made : (p y : ℕ) → first_row sheet (clashes_at sheet y) < absences_in sheet
-      → dead_at sheet p y ≡ Dead p y (row absence_at sheet (first_row sheet (clashes_at sheet y)))
+      → dead_at sheet p y ≡ Some (Dead p y (row absence_at sheet (first_row sheet (clashes_at sheet y))))
   unfolding dead_at
   at_made p y low = row_made (Dead p y) (first_row sheet (clashes_at sheet y)) low
 
@@ -157,7 +158,7 @@ module _ {parent : ℕ → ℕ} {rules : List Rule} {count : ℕ} (fits : Fits p
     data DeadCase (clash : ℕ) : Type 0 where
       alive : is_dead parent rules count p ≡ false → dead_ground sheet clash p ≡ None → DeadCase clash
       dies : is_dead parent rules count p ≡ true → dead_path parent rules count p < count → at < absences_in sheet
-          → dead_ground sheet clash p ≡ Dead p (dead_path parent rules count p) (row absence_at sheet at) → DeadCase clash
+          → dead_ground sheet clash p ≡ Some (Dead p (dead_path parent rules count p) (row absence_at sheet at)) → DeadCase clash
 
     from_small : clashes_from parent rules count p < 2 ^ 64
     unfolding clashes_from
@@ -185,11 +186,10 @@ module _ {parent : ℕ → ℕ} {rules : List Rule} {count : ℕ} (fits : Fits p
             dies (rw e) c.0 low (ap (dead_from sheet p) from ∙ made false e refl ∙ at_made p (lowest s) low)
 
     module _ (clash : ℕ) (is : clash ≡ clashing parent rules count) where
-      dead_given : given (dead_ground sheet clash p) ≡ is_dead parent rules count p
-      unfolding given
+      dead_given : is_some (dead_ground sheet clash p) ≡ is_dead parent rules count p
       dead_given = pick (dead_case clash is)
         where
-          pick : DeadCase clash → given (dead_ground sheet clash p) ≡ is_dead parent rules count p
+          pick : DeadCase clash → is_some (dead_ground sheet clash p) ≡ is_dead parent rules count p
           pick (alive e g) = rw (g, e)
           pick (dies e l low g) = rw (g, e)
 
@@ -225,7 +225,7 @@ module _ {parent : ℕ → ℕ} {rules : List Rule} {count : ℕ} (fits : Fits p
     data PairCase : Type 0 where
       apart : is_pair parent rules count c p q ≡ false → pair_ground sheet p q ≡ None → PairCase
       barred : is_pair parent rules count c p q ≡ true → by < absences_in sheet
-          → pair_ground sheet p q ≡ Pair p q (row absence_at sheet by) (pair_side parent rules count c p q (rule_in (row absence_at sheet by))) → PairCase
+          → pair_ground sheet p q ≡ Some (Pair p q (row absence_at sheet by) (pair_side parent rules count c p q (rule_in (row absence_at sheet by)))) → PairCase
 
     pair_case : PairCase
     unfolding pair_ground pair_with pair_side
@@ -234,7 +234,7 @@ module _ {parent : ℕ → ℕ} {rules : List Rule} {count : ℕ} (fits : Fits p
         found : ltb by (absences_in sheet) ≡ is_pair parent rules count c p q
         found = pair_found fits some says c p q meet hp hq
 
-        made : by < absences_in sheet → row_ground sheet (pair_with sheet p q) by ≡ pair_with sheet p q (row absence_at sheet by)
+        made : by < absences_in sheet → row_ground sheet (pair_with sheet p q) by ≡ Some (pair_with sheet p q (row absence_at sheet by))
         made low = row_made (pair_with sheet p q) by low
 
         pick : (b : Bool) → ltb by (absences_in sheet) ≡ b → PairCase
@@ -243,11 +243,10 @@ module _ {parent : ℕ → ℕ} {rules : List Rule} {count : ℕ} (fits : Fits p
             barred (sym found ∙ e) low (made low ∙ rw (straight_same fits some says by low c p q meet hp hq))
         pick false e = apart (sym found ∙ e) (row_none (pair_with sheet p q) by e)
 
-    pair_given : given (pair_ground sheet p q) ≡ is_pair parent rules count c p q
-    unfolding given
+    pair_given : is_some (pair_ground sheet p q) ≡ is_pair parent rules count c p q
     pair_given = pick pair_case
       where
-        pick : PairCase → given (pair_ground sheet p q) ≡ is_pair parent rules count c p q
+        pick : PairCase → is_some (pair_ground sheet p q) ≡ is_pair parent rules count c p q
         pick (apart e g) = rw (g, e)
         pick (barred e low g) = rw (g, e)
 
@@ -285,7 +284,7 @@ module _ {parent : ℕ → ℕ} {rules : List Rule} {count : ℕ} (fits : Fits p
     abbrev direct : Bool
     direct = reachb parent rules count (context_of parent p q) p q
 
-    goes : direct ≡ true → implication_ground sheet clash p q ≡ Direct p q
+    goes : direct ≡ true → implication_ground sheet clash p q ≡ Some (Direct p q)
     unfolding implication_ground
     goes e = rw (implication_ground, direct_same fits says.laid p q hp hq, e)
 
@@ -293,11 +292,11 @@ module _ {parent : ℕ → ℕ} {rules : List Rule} {count : ℕ} (fits : Fits p
     unfolding implication_ground
     stays e = rw (implication_ground, direct_same fits says.laid p q hp hq, e)
 
-    pub implication_given : given (implication_ground sheet clash p q) ≡ impliesb parent rules count p q
-    unfolding impliesb given
+    pub implication_given : is_some (implication_ground sheet clash p q) ≡ impliesb parent rules count p q
+    unfolding impliesb
     implication_given = pick direct refl
       where
-        pick : (b : Bool) → direct ≡ b → given (implication_ground sheet clash p q) ≡ (direct || is_dead parent rules count p)
+        pick : (b : Bool) → direct ≡ b → is_some (implication_ground sheet clash p q) ≡ (direct || is_dead parent rules count p)
         pick true e = rw (goes e, e)
         pick false e = rw (stays e, e) (dead_given p hp clash is)
 
@@ -317,7 +316,7 @@ module _ {parent : ℕ → ℕ} {rules : List Rule} {count : ℕ} (fits : Fits p
         pick true e = rw (goes e) (direct_range p q (omega (arith, fits.few)) (omega (arith, fits.few)))
         pick false e = rw (stays e) (dead_in p hp clash is)
 
-    exclusion_given : given (exclusion_ground sheet clash p q) ≡ excludesb parent rules count p q
+    exclusion_given : is_some (exclusion_ground sheet clash p q) ≡ excludesb parent rules count p q
     unfolding exclusion_ground excludesb
     exclusion_given =
         or_given _ _
@@ -329,10 +328,10 @@ module _ {parent : ℕ → ℕ} {rules : List Rule} {count : ℕ} (fits : Fits p
     unfolding exclusion_ground excludesb absence_numbers
     exclusion_written d = pick (is_dead parent rules count p) refl (is_dead parent rules count q) refl
       where
-        first : (b : Bool) → is_dead parent rules count p ≡ b → given (dead_ground sheet clash p) ≡ b
+        first : (b : Bool) → is_dead parent rules count p ≡ b → is_some (dead_ground sheet clash p) ≡ b
         first b e = dead_given p hp clash is ∙ e
 
-        second : (b : Bool) → is_dead parent rules count q ≡ b → given (dead_ground sheet clash q) ≡ b
+        second : (b : Bool) → is_dead parent rules count q ≡ b → is_some (dead_ground sheet clash q) ≡ b
         second b e = dead_given q hq clash is ∙ e
 
         pick : (a : Bool) → is_dead parent rules count p ≡ a → (b : Bool) → is_dead parent rules count q ≡ b
@@ -407,10 +406,10 @@ module _ {parent : ℕ → ℕ} {rules : List Rule} {count : ℕ} (fits : Fits p
         pick (three n m l g) = rw g (implication_in clash is p q hp hq, implication_in clash is q p hq hp)
 
     -- the first direction of a co-occurrence
-    pub question_there : (k ≡ 1 → ⊥) → (k ≡ 2 → ⊥) → given (grounds_on sheet clash k p q).first ≡ impliesb parent rules count p q
+    pub question_there : (k ≡ 1 → ⊥) → (k ≡ 2 → ⊥) → is_some (grounds_on sheet clash k p q).first ≡ impliesb parent rules count p q
     question_there n m = pick kind
       where
-        pick : Kind → given (grounds_on sheet clash k p q).first ≡ impliesb parent rules count p q
+        pick : Kind → is_some (grounds_on sheet clash k p q).first ≡ impliesb parent rules count p q
         pick (one e g) = absurd (n e)
         pick (two a e g) = absurd (m e)
         pick (three a b l g) = rw g (implication_given clash is p q hp hq)
@@ -430,7 +429,7 @@ module _ {parent : ℕ → ℕ} {rules : List Rule} {count : ℕ} (fits : Fits p
     data RootCase : Type 0 where
       free : is_root_pair parent rules count needed ≡ false → root_ground sheet needed ≡ None → RootCase
       bound : is_root_pair parent rules count needed ≡ true → top < absences_in sheet → first < count → second < count
-          → root_ground sheet needed ≡ Pair first second (row absence_at sheet top) 0 → RootCase
+          → root_ground sheet needed ≡ Some (Pair first second (row absence_at sheet top) 0) → RootCase
 
     root_case : RootCase
     unfolding root_ground root_with root_first root_second
@@ -486,8 +485,8 @@ module _ {parent : ℕ → ℕ} {rules : List Rule} {count : ℕ} (fits : Fits p
               let h = (passing_iff (is_dead parent rules count) count (lowest d) fits.few).0 m.0 in
               doomed (rw e) h.0 (T_true _ h.1) (rw (dead_lowest, e))
 
-      pub conflict_given : given (conflict_ground sheet clash needed) ≡ not (consistentb parent rules count needed)
-      unfolding conflict_ground consistentb given
+      pub conflict_given : is_some (conflict_ground sheet clash needed) ≡ not (consistentb parent rules count needed)
+      unfolding conflict_ground consistentb
       conflict_given = or_given _ _ ∙ pick root_case last_case
         where
           twice : (b : Bool) → b ≡ not (not b)
@@ -495,7 +494,7 @@ module _ {parent : ℕ → ℕ} {rules : List Rule} {count : ℕ} (fits : Fits p
           twice false = refl
 
           pick : RootCase → LastCase
-              → (given (root_ground sheet needed) || given (dead_lowest sheet clash (dead_needed sheet clash needed)))
+              → (is_some (root_ground sheet needed) || is_some (dead_lowest sheet clash (dead_needed sheet clash needed)))
               ≡ not (not (is_root_pair parent rules count needed || is_asked_dead parent rules count needed))
           pick (bound e low hl hr g) l = rw (g, e)
           pick (free e g) (spared f i) = rw (g, e, last, i, f)
@@ -503,19 +502,19 @@ module _ {parent : ℕ → ℕ} {rules : List Rule} {count : ℕ} (fits : Fits p
 
       pub conflict_written : consistentb parent rules count needed ≡ false
           → ground_numbers sheet (conflict_ground sheet clash needed) ≡ inconsistent_numbers parent rules count needed
-      unfolding conflict_ground consistentb inconsistent_numbers given ground_numbers
+      unfolding conflict_ground consistentb inconsistent_numbers ground_numbers
       conflict_written n = pick root_case last_case
         where
           pick : RootCase → LastCase → ground_numbers sheet (conflict_ground sheet clash needed) ≡ inconsistent_numbers parent rules count needed
           pick (bound e low hl hr g) l =
-              let z : given (root_ground sheet needed) ≡ true = rw g in
+              let z : is_some (root_ground sheet needed) ≡ true = rw g in
               rw (or_first _ _ z, g, inconsistent_numbers, e)
               (pair_numbers_lem top low first second hl hr 0
               ∙ ap (λ (r : ℕ). pair_numbers parent rules count (root_first parent rules count needed r) (root_second parent rules count needed r) r 0)
               (root_rule_lem fits some says needed low))
           pick (free e g) (spared f i) = absurd (subst T (rw (e, f) at n) tt)
           pick (free e g) (doomed f h i v) =
-              let z : given (root_ground sheet needed) ≡ false = rw g in
+              let z : is_some (root_ground sheet needed) ≡ false = rw g in
               rw (or_second _ _ z, inconsistent_numbers, e, last, v) (dead_written (dead_asked parent rules count needed) h clash is i)
 
       pub conflict_in : InRange (conflict_ground sheet clash needed)

@@ -4,13 +4,8 @@ use mathlib.Core.Path.{◌≡◌, refl, subst}
 use mathlib.Core.Logic.{◌⊎◌, inl, inr}
 use mathlib.Core.List.Memᴰ
 use mathlib.Core.List.{List, [], ◌∷◌, Memᴰ}
-use native.Mathlib.Omega.{arith}
-use lib.Count.{count_trailing_zeros, trailing_le}
-use Rattle.files.specs.Sets.{Has, union, lowest, without_lowest, members, UpTo64}
+use Rattle.files.specs.Sets.{Has, union, join_words}
 use Rattle.files.proofs.SetBits.{has_union, union_lt}
-use Rattle.files.proofs.SetLowest.{lowest_le}
-use Rattle.files.proofs.SetMembers.{members_of_zero, members_take}
-use Rattle.evidence.specs.Choices.{join_words}
 
 module _ (word : ℕ → ℕ) where
   -- the word of one of the paths has i
@@ -53,27 +48,3 @@ module _ (word : ℕ → ℕ) where
   unfolding join_words
   joined_small small [] joined h = h
   joined_small small (z ∷ rest) joined h = joined_small small rest (union joined (word z)) (union_lt joined (word z) h (small z))
-
-  -- ---- the loop over the members of a set
-
-  module _ (left joined v : ℕ) (inv : join_words word (members left) joined ≡ v) where
-    pub joined_on : (z more f w : ℕ) → (left ≡ 0 → ⊥) → left < 2 ^ 64 → UpTo64 (lowest left) z → more ≡ without_lowest left
-        → f ≡ word z → w ≡ union joined f → join_words word (members more) w ≡ v
-    unfolding join_words
-    joined_on z more f w n h u e g k = rw (e, k, g, u.is) (rw (members_take left (omega (arith, n)) h, join_words) at inv)
-
-    pub joined_end : left ≡ 0 → joined ≡ v
-    unfolding join_words
-    joined_end z = rw (z, members_of_zero) at inv
-
--- the lowest set bit by its zeros
-pub lowest_bit : (w : ℕ) → UpTo64 (lowest w) (count_trailing_zeros 64 w)
-unfolding lowest
-lowest_bit w = record { is = refl; small = lowest_le w }
-
-pub bit_fits : (w : ℕ) → count_trailing_zeros 64 w < 2 ^ 64
-bit_fits w = omega (arith, trailing_le 64 w)
-
-pub ruleset joined_laws = (joined_on, joined_end)
-
-pub ruleset bit_laws = (lowest_bit, bit_fits)

@@ -1,13 +1,8 @@
 -- What is chosen from the words of a sheet: clashes, dead paths, pairs and the root pair, by the rows of absence rules.
-use Rattle.std.specs.Prelude.{ℕ, zero, suc, Bool, ◌&&◌, ◌||◌, List, [], ◌∷◌, eqb}
-use Rattle.files.specs.Sets.{hasb, union, common, members}
+use Rattle.std.specs.Prelude.{ℕ, zero, suc, Bool, true, false, ◌&&◌, ◌||◌, List, Option, Some, None, eqb, ltb}
+use Rattle.files.specs.Sets.{hasb, union, common, members, join_words}
 use Rattle.theory.specs.Least.{least, some_in}
 use Rattle.reachable.specs.Sheet.{row, reach_at, back_at, absence_at, set_at, left_in, right_in, place_in, absences_in}
-
--- the words of the paths of a list join
-unfoldable pub join_words : (word : ℕ → ℕ) (zs : List ℕ) (joined : ℕ) → ℕ
-join_words word [] joined = joined
-join_words word (z ∷ rest) joined = join_words word rest (union joined (word z))
 
 module _ (sheet : List ℕ) where
   -- the paths from which both sides of an absence rule are reachable inside its context
@@ -30,6 +25,11 @@ module _ (sheet : List ℕ) where
   -- the first row of an absence rule that passes the test; the number of rows if none does
   unfoldable pub first_row : (test : ℕ → Bool) → ℕ
   first_row test = least (row_passes test) (absences_in sheet)
+
+  -- the word of that row, if one passes
+  unfoldable pub first_word : (test : ℕ → Bool) → Option ℕ
+  first_word test =
+      elim (ltb (first_row test) (absences_in sheet)) [ true ↦ Some (row absence_at sheet (first_row test)) | false ↦ None ]
 
   -- an absence rule clashes at y
   unfoldable pub clashes_at : (y w : ℕ) → Bool

@@ -1,19 +1,20 @@
--- The written walk as the code stores it: the step taken into a set, and numbers that stand in an array.
-use Rattle.std.specs.Prelude.{ℕ, ◌+◌, ◌≤◌, ◌<◌, ◌≡◌, Bool, true, false, ◌&&◌, List, eqb, length}
-use Rattle.std.proofs.lemmas.List.Edits.{sets}
+-- The written walk as the code puts it: the step taken into a set, and numbers that are put one after the other.
+use Rattle.std.specs.Prelude.{ℕ, ◌≤◌, ◌<◌, ◌≡◌, Bool, true, false, ◌&&◌, List, ◌++◌, Option, Some, None, eqb, length}
 use Rattle.files.specs.Table.{Rule}
 use Rattle.files.specs.Sets.{hasb}
 use Rattle.theory.specs.Reachable.{goes_along, goes_against}
 use Rattle.theory.specs.Search.{Move}
+use Rattle.evidence.specs.declared.seek.Turn.{Turn}
+use Rattle.evidence.specs.declared.seek.Turn.TheVariants.{Along, Against}
 
--- 1 if the first test passes, 2 if only the second does, else 0
-unfoldable pub pick_turn : (along against : Bool) → ℕ
-pick_turn true against = 1
-pick_turn false true = 2
-pick_turn false false = 0
+-- along if the first test passes, against if only the second does
+unfoldable pub pick_turn : (along against : Bool) → Option Turn
+pick_turn true against = Some Along
+pick_turn false true = Some Against
+pick_turn false false = None
 
--- how a rule leads from x into the set s: 1 along, 2 against, 0 not at all
-unfoldable pub turn_of : (ru : Rule) (x s : ℕ) → ℕ
+-- how a rule leads from x into the set s, if it does
+unfoldable pub turn_of : (ru : Rule) (x s : ℕ) → Option Turn
 turn_of ru x s =
     pick_turn (goes_along ru && eqb ru.left x && hasb s ru.right) (goes_against ru && eqb ru.right x && hasb s ru.left)
 
@@ -24,14 +25,7 @@ pub record MoveIs (m : Move) (code to : ℕ) : Type 0 where
   pub small : code ≤ 512
   pub low : to < 64
 
--- the numbers ns, at most `most` of them, stand in the array from `start` on, and r is the place after them
-pub record Stored (ns : List ℕ) (most : ℕ) (before : List ℕ) (start : ℕ) (after : List ℕ) (r : ℕ) : Type 0 where
-  pub end : r ≡ start + length ns
-  pub room : r ≤ start + most
-  pub numbers : after ≡ sets before start ns
-
--- the codes, n of them and at most 64, stand in the array from `start` on
-pub record StoredCodes (codes before : List ℕ) (start : ℕ) (after : List ℕ) (n : ℕ) : Type 0 where
-  pub many : n ≡ length codes
-  pub few : n ≤ 64
-  pub numbers : after ≡ sets before start codes
+-- the numbers ns, at most `most` of them, come after those that were there
+pub record Stored (ns : List ℕ) (most : ℕ) (before after : List ℕ) : Type 0 where
+  pub few : length ns ≤ most
+  pub numbers : after ≡ before ++ ns

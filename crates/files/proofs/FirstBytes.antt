@@ -6,9 +6,7 @@ use native.Mathlib.Omega.{arith}
 use lib.ListN.{length, drop, take, length-append, length-drop, length-take, take-append-drop}
 use lib.Seq.{drop-append-le}
 use borrow.Author.Tests.{lt-ltb}
-use Rattle.files.specs.declared.number.Number.{Number}
-use Rattle.files.specs.declared.number.Number.TheVariants.{Is, Refused}
-use Rattle.files.specs.Number.{number_in, second_in}
+use Rattle.files.specs.Number.{Begun, Is, Refused, number_in, second_in}
 use Rattle.files.specs.Format.{Format, done, want, and_then, Outcome, got, refused, run, at_end, run_all}
 use Rattle.files.specs.RuleFile.{one_path, path_label, more_paths, one_rule, rule_left, rule_right, more_rules, rules_to_end, after_required, required_on, after_paths, after_root, after_count, rule_file, more_ascending}
 use Rattle.files.specs.Reading.{reading_of, read_answer}
@@ -56,7 +54,7 @@ module _ {A : Type 0} {P : A → ℕ → Type 0} where
           ∙ sym (run_next test next at s x size e u)
       tested x size (suc m) e u ih = run_own test next at (s ++ t) x size m (front ∙ e) u ∙ sym (run_own test next at s x size m e u)
 
-      by : (r : Number) → number_in s ≡ r → IH → Goal
+      by : (r : Begun) → number_in s ≡ r → IH → Goal
       by (Is x size) e ih = tested x size (test x) e refl ih
       by (Refused j) e ih = run_bad test next at (s ++ t) j (front ∙ e) ∙ sym (run_bad test next at s j e)
 
@@ -80,7 +78,7 @@ module _ {A : Type 0} {P : A → ℕ → Type 0} where
           absurd (let g : refused (suc m) at ≡ got a next = sym (run_own test follow at s x size m f u) ∙ e in
           let z : ◌≡◌ {A = ℕ} 0 1 = cc in omega arith)
 
-      by : (r : Number) → number_in s ≡ r → IH → next ≤ at + 2 * suc n
+      by : (r : Begun) → number_in s ≡ r → IH → next ≤ at + 2 * suc n
       by (Is x size) f ih = tested x size (test x) f refl ih
       by (Refused j) f ih =
           absurd (let g : refused j at ≡ got a next = sym (run_bad test follow at s j f) ∙ e in let z : ◌≡◌ {A = ℕ} 0 1 = cc in omega arith)

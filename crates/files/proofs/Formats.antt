@@ -9,9 +9,7 @@ use lib.ListN.{length, drop, length-append}
 use lib.Seq.{drop-drop, drop-append_seam, get_or-append-add}
 use lib.Dec.{ltb}
 use borrow.Author.Tests.{lt-ltb, le-ltb, ltb-true, ltb-false}
-use Rattle.files.specs.declared.number.Number.{Number}
-use Rattle.files.specs.declared.number.Number.TheVariants.{Is, Refused}
-use Rattle.files.specs.Number.{limit, bytes_of, bytes_of_all, number_in, Bytes, Begins, number, cut as begins-cut, long as begins-long}
+use Rattle.files.specs.Number.{Begun, Is, Refused, limit, bytes_of, bytes_of_all, number_in, Bytes, Begins, number, cut as begins-cut, long as begins-long}
 use Rattle.files.specs.Format.{Format, done, want, and_then, Outcome, got, refused, run, at_end, on_test, on_number, run_all, Leads, here, take, Stops, cut, long, own, left, Accepted, RefusedAt}
 use Rattle.files.proofs.Numbers.{read_back, in_cut, in_long, begins}
 
@@ -57,7 +55,7 @@ run_then (want test next) g s at = by (number_in (drop at s)) refl (λ n. run_th
     tested n size zero e t ih = rw (e, t, drop-drop size at s) (ih n (at + size))
     tested n size (suc m) e t ih = rw (e, t)
 
-    by : (r : Number) → number_in (drop at s) ≡ r → IH → Goal
+    by : (r : Begun) → number_in (drop at s) ≡ r → IH → Goal
     by (Is n size) e ih = tested n size (test n) e refl ih
     by (Refused k) e ih = rw e
 
@@ -144,7 +142,7 @@ run_ran {A} (want test next) at s bs = by (begins s bs) bs (λ n. run_ran (next 
         rw (run_own test next at (bytes_of n ++ rest) n (length (bytes_of n)) m (read_back n rest small) e)
         (ran_stop test next at _ (suc m) (own rest small refl e))
 
-    by : {t : List ℕ} {r : Number} → Begins t r → Bytes t → IH → Ran (want test next) at t (run (want test next) at t)
+    by : {t : List ℕ} {r : Begun} → Begins t r → Bytes t → IH → Ran (want test next) at t (run (want test next) at t)
     by (number {n} rest small) bs' ih = tested n (test n) rest small refl bs' ih
     by (begins-cut {s = t} c) bs' ih = rw (run_bad test next at t 1 (in_cut c)) (ran_stop test next at t 1 (cut c))
     by (begins-long {s = t} c) bs' ih = rw (run_bad test next at t 2 (in_long c)) (ran_stop test next at t 2 (long c))

@@ -9,9 +9,10 @@ use lib.ListN.{length, get_or, drop, drop_of_length-le, length-drop}
 use lib.Seq.{drop-cons}
 use lib.Dec.{ltb, eqb}
 use borrow.Author.Tests.{lt-ltb, le-ltb, eq-eqb, ne_eqb, ltb-true, ltb-false, eqb-true, eqb-false}
+use Rattle.std.specs.Prelude.{Result, Ok, Err, IfOk}
 use Rattle.files.specs.declared.number.Number.{Number}
-use Rattle.files.specs.declared.number.Number.TheVariants.{Is, Refused}
-use Rattle.files.specs.Number.{limit, bytes_of, Cut, before, inside, TooLong, third, empty, Bytes, two_bytes, second_in, number_in, Begins, number, cut, long}
+use Rattle.files.specs.declared.refusal.Condition.{Condition}
+use Rattle.files.specs.Number.{begun, Begun, Is, Refused, limit, bytes_of, Cut, before, inside, TooLong, third, empty, Bytes, two_bytes, second_in, number_in, Begins, number, cut, long}
 
 -- a number below 128 is its own byte
 pub bytes_short : (n : ℕ) → n < 128 → bytes_of n ≡ n ∷ []
@@ -133,15 +134,20 @@ number_bounds (b ∷ rest) n size e = by (ltb b 128) refl
     by false f = long rest (sym (in_second b rest (ltb-false b 128 f)) ∙ e)
 
 -- the place after a number that was read is within the bytes
-pub number_ends : (s : List ℕ) (at n size : ℕ) (r : Number) → r ≡ number_in (drop at s) → r ≡ Is n size → (n < limit) × (at + size ≤ length s)
+pub number_ends : (s : List ℕ) (at n size : ℕ) (r : Begun) → r ≡ number_in (drop at s) → r ≡ Is n size → (n < limit) × (at + size ≤ length s)
 number_ends s at n size r e f =
     let b : (n < limit) × (1 ≤ size) × (size ≤ 2) × (size ≤ length (drop at s)) = number_bounds (drop at s) n size (sym e ∙ f) in
     omega (arith, length-drop at s)
 
-pub place_fits : (s : List ℕ) (at n size : ℕ) (r : Number) → r ≡ number_in (drop at s) → r ≡ Is n size → length s < 2 ^ 64 → at + size < 2 ^ 64
+pub place_fits : (s : List ℕ) (at n size : ℕ) (r : Begun) → r ≡ number_in (drop at s) → r ≡ Is n size → length s < 2 ^ 64 → at + size < 2 ^ 64
 place_fits s at n size r e f h = omega (arith, number_ends s at n size r e f)
 
 -- the same in the words of the code, which reads at a place of a slice
+-- the same of a result
+pub number_fits : (s : List ℕ) (at : ℕ) (r : Result Number Condition) → begun r ≡ number_in (drop at s) → length s < 2 ^ 64 → IfOk r (λ n. at + n.width < 2 ^ 64)
+number_fits s at (Ok n) e h = place_fits s at n.value n.width _ e refl h
+number_fits s at (Err c) e h = tt
+
 pub at_end_lem : (s : List ℕ) (at : ℕ) → length s ≤ at → Refused 1 ≡ number_in (drop at s)
 at_end_lem s at h = sym (rw (drop_of_length-le s h) (in_cut before))
 
@@ -152,7 +158,7 @@ pub at_inside : (s : List ℕ) (at b : ℕ) → at < length s → b ≡ get_or s
     → Refused 1 ≡ number_in (drop at s)
 at_inside s at b h e l m = rw (drop-cons s at 0 h, ← e, drop_of_length-le s {i = suc at} (omega arith)) (sym (in_cut (inside l)))
 
-pub at_two : (s : List ℕ) (at b d : ℕ) (r : Number) → at + 1 < length s → b ≡ get_or s at 0 → 128 ≤ b → d ≡ get_or s (at + 1) 0
+pub at_two : (s : List ℕ) (at b d : ℕ) (r : Begun) → at + 1 < length s → b ≡ get_or s at 0 → 128 ≤ b → d ≡ get_or s (at + 1) 0
     → r ≡ two_bytes b d → r ≡ number_in (drop at s)
 at_two s at b d r m e l f g =
     let h : at < length s = omega arith in

@@ -5,15 +5,11 @@ use mathlib.Core.List.{List, ◌++◌}
 use native.Mathlib.Omega.{arith}
 use lib.ListN.{length, take, drop}
 use lib.Seq.{take-append_seam}
-use Rattle.files.specs.declared.read.Answer.TheVariants.{Accepted}
-use Rattle.files.specs.declared.read.Reading.{Reading}
 use Rattle.files.specs.declared.rules.Rules.{Rules}
-use Rattle.files.specs.declared.write.Written.{Written}
-use Rattle.files.specs.declared.write.Written.TheVariants.{Length, Refused}
-use Rattle.files.specs.Reading.{ReadRules}
+use Rattle.files.specs.Reading.{Accepted, Reading, ReadRules}
 use Rattle.files.specs.RuleFile.{file_of}
 use Rattle.files.specs.Rules.{rules_of, table_of, ValidTable}
-use Rattle.files.specs.Writing.{WritesTable, invalid, short, written, WriteRules}
+use Rattle.files.specs.Writing.{Written, Length, Refused, WritesTable, invalid, short, written, WriteRules}
 use Rattle.files.proofs.TableStructs.{rules_of_table}
 
 -- ---- writing, then reading

@@ -9,9 +9,8 @@ use native.Mathlib.Numerals.{add-one}
 use lib.ListN.{length, get_or, drop, set, length-append, length-set, drop_of_length-le}
 use lib.Seq.{sets, sets-eq, length-sets, drop-cons}
 use borrow.Author.Tests.{le-leb, lt-leb}
-use Rattle.files.specs.declared.write.Written.TheVariants.{Length, Refused}
 use Rattle.files.specs.Number.{limit, bytes_of, bytes_of_all}
-use Rattle.files.specs.Writing.{put, wrapped, Puts}
+use Rattle.files.specs.Writing.{Length, Refused, put, wrapped, Puts}
 use Rattle.files.proofs.Numbers.{bytes_short, bytes_long}
 
 -- how many bytes a number takes

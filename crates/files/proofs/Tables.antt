@@ -1,5 +1,5 @@
 -- Arrays stand for the paths and the rules that fill them.
-use Prim.Native.Nat.{ℕ, zero, suc, ◌+◌, ◌-◌, ◌<◌, ◌≤◌}
+use Prim.Native.Nat.{ℕ, zero, suc, ◌+◌, ◌-◌, ◌<◌, ◌≤◌, min}
 use mathlib.Core.Path.{◌≡◌, refl, sym, ap, ap₂, ◌∙◌}
 use mathlib.Core.Logic.{◌⊎◌, inl, inr, ⊎_elim}
 use mathlib.Core.Bool.{Bool, true, false, cond}
@@ -7,7 +7,7 @@ use mathlib.Core.List.{List, [], ◌∷◌, ◌++◌, map}
 use native.Mathlib.Omega.{arith}
 use lib.ListN.{length, get_or, set, replicate}
 use lib.Dec.{ltb}
-use borrow.Author.Tests.{le-ltb, ltb-true, ltb-false}
+use borrow.Author.Tests.{ltb-true, ltb-false}
 use Rattle.files.specs.Table.{Path, Rule, parents, labels, parent_in}
 use Rattle.files.specs.Rules.{paths_from, rules_from, padded, first_of, slots_from, parents_in}
 use Rattle.files.proofs.Padded.{padded_get, padded_store}
@@ -135,11 +135,12 @@ module _ (parent : List ℕ) (last : ℕ) (clean : List ℕ) (x : ℕ) (inv : Pa
       let same : x - 1 ≡ first_of count - 1 = ⊎_elim (λ (m : x ≤ last). omega arith) (λ (m : (x ≡ 1) × (last ≤ 1)). omega arith) inv.most in
       inv.filled ∙ ap (λ (n : ℕ). padded 64 (0 ∷ slots_from parent 1 n)) same
 
-pub first_small : (count : ℕ) → count < 64 → (count ≡ first_of count) × (count ≤ 64)
-first_small count h = (sym (first_all count (omega arith)), omega arith)
-
-pub first_large : (count : ℕ) → 64 ≤ count → (64 ≡ first_of count) × (◌≤◌ 64 64)
+pub first_min : (count last : ℕ) → last ≡ min count 64 → last ≡ first_of count
 unfolding first_of
-first_large count h = (rw (le-ltb count 64 h), omega arith)
+first_min count last e = by (ltb count 64) refl
+  where
+    by : (t : Bool) → ltb count 64 ≡ t → last ≡ cond (ltb count 64) count 64
+    by true f = rw f (let h : count < 64 = ltb-true count 64 f in omega arith)
+    by false f = rw f (let h : 64 ≤ count = ltb-false count 64 f in omega arith)
 
-pub ruleset parents_laws = (parents_start, parents_more, parents_end)
+pub ruleset parents_laws = (parents_start, parents_more, parents_end, first_min)

@@ -1,23 +1,28 @@
 -- Laws of the test behind refusal 12, in the words of the code.
 use Prim.Native.Nat.{ℕ, zero, suc, ◌+◌, ◌-◌, ◌^◌, ◌<◌, ◌≤◌}
 use mathlib.Core.Path.{◌≡◌, refl, sym, ap, ◌∙◌}
-use mathlib.Core.Bool.{Bool, true, false, cond, not}
+use mathlib.Core.Bool.{Bool, true, false, not, false≢true}
 use mathlib.Core.List.{List, [], ◌∷◌, ◌++◌}
 use mathlib.Core.Logic.{◌⊎◌, inl, inr, ⊎_elim}
 use native.Mathlib.Omega.{arith}
 use lib.ListN.{length, get_or, set, replicate}
 use lib.Dec.{ltb, eqb}
-use borrow.Author.Tests.{eq-eqb, ne_eqb, lt-ltb, le-ltb, ltb-true, ltb-false, not-true, not-false}
+use borrow.Author.Tests.{eqb-true, eqb-false, eq-eqb, ne_eqb, lt-ltb, le-ltb, ltb-true, ltb-false, not-true, not-false}
+use Rattle.std.specs.Prelude.{Result}
+use Rattle.std.specs.Result.{is_err}
+use Rattle.files.specs.declared.kind.Kind.{Kind}
+use Rattle.files.specs.declared.kind.UnknownKind.{UnknownKind}
 use Rattle.files.specs.declared.rules.Rules.{Rules}
+use Rattle.files.specs.Kinds.{kind_in}
 use Rattle.files.specs.Number.{limit}
-use Rattle.files.specs.RuleFile.{between, deeper, depths, parent_test, label_test, repeats}
+use Rattle.files.specs.RuleFile.{between, deeper, depths, parent_test, label_test}
 use Rattle.files.specs.Rules.{paths_from, rules_from, padded}
 use Rattle.files.specs.Sets.{common, difference, below_all}
 use Rattle.files.specs.Table.{Path}
 use Rattle.files.specs.TableTest.{path_passes, passing_depth, paths_pass, rule_at, rule_passes, rules_pass, required_pass, paths_valid, rules_valid, table_passes}
 use Rattle.files.proofs.Collect.{rules_step}
 use Rattle.files.proofs.Padded.{padded_get, padded_store}
-use Rattle.files.proofs.Reader.{between_low, between_past, between_in, paths_step, paths_own, parent_padded, parent_below, parent_shallow}
+use Rattle.files.proofs.PathTests.{between_low, between_past, between_in, paths_step, paths_own, parent_padded, parent_below, parent_shallow}
 use Rattle.files.proofs.Depths.{depths_snoc, depths_length}
 
 -- ---- one path
@@ -40,41 +45,41 @@ module _ (parent label depth : List ℕ) (own p w : ℕ) (least : 1 ≤ own)
       ∙ parent_padded ps depth own p known (paths_own parent label own least)
       ∙ sym tested
 
-  pub depth_parent : 0 < w → 0 ≡ passing_depth (paths_from parent label 1 (own - 1)) (get_or parent own 0) (get_or label own 0)
+  pub depth_parent : (w ≡ 0 → ⊥) → 0 ≡ passing_depth (paths_from parent label 1 (own - 1)) (get_or parent own 0) (get_or label own 0)
   unfolding passing_depth path_passes ps
-  depth_parent h = rw (same_test, ne_eqb w 0 (λ z. omega (arith, z)))
+  depth_parent h = rw (same_test, ne_eqb w 0 h)
 
-  module _ (t : Bool) (small : w ≤ 0) (again : t ≡ repeats (paths_from parent label 1 (own - 1)) p (get_or label own 0)) where
-    same_label : label_test ps (get_or parent own 0) (get_or label own 0) ≡ cond t 6 0
-    unfolding label_test ps
-    same_label = rw (← is, ← again)
+  module _ (v : ℕ) (small : w ≡ 0) (again : v ≡ label_test (paths_from parent label 1 (own - 1)) p (get_or label own 0)) where
+    same_label : label_test ps (get_or parent own 0) (get_or label own 0) ≡ v
+    unfolding ps
+    same_label = ap (λ (q : ℕ). label_test (paths_from parent label 1 (own - 1)) q (get_or label own 0)) (sym is) ∙ sym again
 
     none : eqb w 0 ≡ true
-    none = eq-eqb w 0 (omega arith)
+    none = eq-eqb w 0 small
 
-    pub depth_repeats : t ≡ true → 0 ≡ passing_depth (paths_from parent label 1 (own - 1)) (get_or parent own 0) (get_or label own 0)
+    pub depth_repeats : (v ≡ 0 → ⊥) → 0 ≡ passing_depth (paths_from parent label 1 (own - 1)) (get_or parent own 0) (get_or label own 0)
     unfolding passing_depth path_passes ps
-    depth_repeats e = rw (same_test, none, same_label, e)
+    depth_repeats h = rw (same_test, none, same_label, ne_eqb v 0 h)
 
-    pub depth_label : t ≡ false → 16384 ≤ get_or label own 0
+    pub depth_label : v ≡ 0 → 16384 ≤ get_or label own 0
         → 0 ≡ passing_depth (paths_from parent label 1 (own - 1)) (get_or parent own 0) (get_or label own 0)
     unfolding passing_depth path_passes ps
-    depth_label e h = rw (same_test, none, same_label, e, le-ltb (get_or label own 0) limit h)
+    depth_label e h = rw (same_test, none, same_label, eq-eqb v 0 e, le-ltb (get_or label own 0) limit h)
 
-    pub depth_passes : (x : ℕ) → t ≡ false → get_or label own 0 < 16384 → x ≡ p
-        → get_or depth x 0 + 1 ≡ passing_depth (paths_from parent label 1 (own - 1)) (get_or parent own 0) (get_or label own 0)
+    pub depth_passes : v ≡ 0 → get_or label own 0 < 16384
+        → get_or depth p 0 + 1 ≡ passing_depth (paths_from parent label 1 (own - 1)) (get_or parent own 0) (get_or label own 0)
     unfolding passing_depth path_passes ps
-    depth_passes x e h f =
-        let same : get_or depth x 0 ≡ get_or (depths ps) (get_or parent own 0) 0 =
-        rw (f, is, known) (padded_get 64 (depths ps) (get_or parent own 0)) in
-        rw (same_test, none, same_label, e, lt-ltb (get_or label own 0) limit h, same) (omega arith)
+    depth_passes e h =
+        let same : get_or depth p 0 ≡ get_or (depths ps) (get_or parent own 0) 0 =
+        rw (is, known) (padded_get 64 (depths ps) (get_or parent own 0)) in
+        rw (same_test, none, same_label, eq-eqb v 0 e, lt-ltb (get_or label own 0) limit h, same) (omega arith)
 
-module _ (depth : List ℕ) (own p w x : ℕ) (tested : w ≡ parent_test depth own p) (small : w ≤ 0) (e : x ≡ p) where
-  pub parent_inside : own < 64 → x < 64
-  parent_inside h = omega (arith, parent_below depth own p w tested small)
+module _ (depth : List ℕ) (own p w : ℕ) (tested : w ≡ parent_test depth own p) (small : w ≡ 0) where
+  pub parent_inside : own ≤ 64 → p < 64
+  parent_inside h = omega (arith, parent_below depth own p w tested (omega arith))
 
-  pub parent_deeper : get_or depth x 0 + 1 < 2 ^ 8
-  parent_deeper = rw e (omega (arith, parent_shallow depth own p w tested small))
+  pub parent_deeper : get_or depth p 0 + 1 < 2 ^ 8
+  parent_deeper = omega (arith, parent_shallow depth own p w tested (omega arith))
 
 pub ruleset depth_laws = (depth_parent, depth_repeats, depth_label, depth_passes, parent_inside, parent_deeper)
 
@@ -196,21 +201,13 @@ pub ruleset required_laws = (required_root, required_in)
 -- ---- rules
 
 module _ (count : ℕ) (kind left right : List ℕ) (x : ℕ) where
-  pub rule_low : get_or kind x 0 < 1 → false ≡ rule_passes count (rule_at kind left right x)
-  unfolding rule_passes
-  rule_low h = rw (between_low 1 4 9 (get_or kind x 0) h)
-
-  pub rule_high : 3 < get_or kind x 0 → false ≡ rule_passes count (rule_at kind left right x)
-  unfolding rule_passes
-  rule_high h = rw (between_past 1 4 9 (get_or kind x 0) (omega arith) h)
-
   module _ (low : 1 ≤ get_or kind x 0) (high : get_or kind x 0 ≤ 3) (l : ℕ) (a : l ≡ get_or left x 0) where
     kind_in_lem : between 1 4 9 (get_or kind x 0) ≡ 0
     kind_in_lem = between_in 1 4 9 (get_or kind x 0) low (omega arith)
 
-    pub rule_left_lem : count ≤ l → false ≡ rule_passes count (rule_at kind left right x)
+    pub rule_left_lem : count ≤ l → ltb l count ≡ rule_passes count (rule_at kind left right x)
     unfolding rule_passes
-    rule_left_lem h = rw (kind_in_lem, ← a, between_past 0 count 10 l (omega arith) h)
+    rule_left_lem h = rw (kind_in_lem, ← a, between_past 0 count 10 l (omega arith) h, le-ltb l count h)
 
     pub rule_right_lem : (r : ℕ) → l < count → r ≡ get_or right x 0 → ltb r count ≡ rule_passes count (rule_at kind left right x)
     unfolding rule_passes
@@ -220,7 +217,50 @@ module _ (count : ℕ) (kind left right : List ℕ) (x : ℕ) where
         by true e = rw (between_in 0 count 10 r (omega arith) (ltb-true r count e)) e
         by false e = rw (between_past 0 count 10 r (omega arith) (ltb-false r count e)) e
 
-pub ruleset rule_laws = (rule_low, rule_high, rule_left_lem, rule_right_lem)
+-- a number that has a kind is 1, 2 or 3
+kind_cases : (n : ℕ) → ((is_err (kind_in n) ≡ true) × (between 1 4 9 n ≡ 9)) ⊎ ((is_err (kind_in n) ≡ false) × ((1 ≤ n) × (n ≤ 3)))
+kind_cases n = by (eqb n 1) refl (eqb n 2) refl (eqb n 3) refl
+  where
+    by : (a : Bool) → eqb n 1 ≡ a → (b : Bool) → eqb n 2 ≡ b → (d : Bool) → eqb n 3 ≡ d
+        → ((is_err (kind_in n) ≡ true) × (between 1 4 9 n ≡ 9)) ⊎ ((is_err (kind_in n) ≡ false) × ((1 ≤ n) × (n ≤ 3)))
+    by true f b g d h = inr (rw f refl, (let z : n ≡ 1 = eqb-true n 1 f in (omega arith, omega arith)))
+    by false f true g d h = inr (rw (f, g) refl, (let z : n ≡ 2 = eqb-true n 2 g in (omega arith, omega arith)))
+    by false f false g true h = inr (rw (f, g, h) refl, (let z : n ≡ 3 = eqb-true n 3 h in (omega arith, omega arith)))
+    by false f false g false h =
+        inl (
+          rw (f, g, h) refl,
+          (let a : n ≡ 1 → ⊥ = eqb-false n 1 f in
+              let b : n ≡ 2 → ⊥ = eqb-false n 2 g in
+              let d : n ≡ 3 → ⊥ = eqb-false n 3 h in
+              ⊎_elim (λ (z : n < 1). between_low 1 4 9 n z) (λ (z : 4 ≤ n). between_past 1 4 9 n (omega arith) z) (outside a b d)),
+        )
+      where
+        outside : (n ≡ 1 → ⊥) → (n ≡ 2 → ⊥) → (n ≡ 3 → ⊥) → (n < 1) ⊎ (4 ≤ n)
+        outside a b d = at (ltb n 1) refl
+          where
+            at : (t : Bool) → ltb n 1 ≡ t → (n < 1) ⊎ (4 ≤ n)
+            at true e = inl (ltb-true n 1 e)
+            at false e = inr (let z : 1 ≤ n = ltb-false n 1 e in omega (arith, a, b, d))
+
+module _ (n k : ℕ) (is : n ≡ k) (r : Result Kind UnknownKind) (read : r ≡ kind_in n) where
+  module _ (known : is_err r ≡ false) where
+    known_kind : (1 ≤ n) × (n ≤ 3)
+    known_kind = ⊎_elim (λ z. absurd (false≢true (sym (rw read at known) ∙ z.0))) (λ z. z.1) (kind_cases n)
+
+    pub kind_least : 1 ≤ k
+    kind_least = omega (arith, known_kind.0)
+
+    pub kind_most : k ≤ 3
+    kind_most = omega (arith, known_kind.1)
+
+  pub kind_unknown : (count : ℕ) (kind left right : List ℕ) (x : ℕ) → k ≡ get_or kind x 0 → is_err r ≡ true
+      → false ≡ rule_passes count (rule_at kind left right x)
+  unfolding rule_passes
+  kind_unknown count kind left right x e known =
+      let f : between 1 4 9 n ≡ 9 = ⊎_elim (λ z. z.1) (λ z. absurd (false≢true (sym z.0 ∙ rw read at known))) (kind_cases n) in
+      rw (← e, ← is, f)
+
+pub ruleset rule_laws = (rule_left_lem, rule_right_lem, kind_least, kind_most, kind_unknown)
 
 pub all_start : (kind left right : List ℕ) (many count : ℕ)
     → rules_pass count (rules_from kind left right 0 (many - 0)) ≡ rules_pass count (rules_from kind left right 0 many)

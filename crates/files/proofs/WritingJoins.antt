@@ -9,12 +9,14 @@ use lib.ListN.{length, drop}
 use lib.Dec.{leb}
 use borrow.Author.Tests.{leb-true, leb-false}
 use Rattle.files.specs.declared.rules.Rules.{Rules}
-use Rattle.files.specs.declared.write.Written.{Written}
-use Rattle.files.specs.declared.write.Written.TheVariants.{Length, Refused}
+use Rattle.std.specs.Prelude.{Result, Ok, Err}
+use Rattle.files.specs.declared.refusal.Refusal.{Refusal}
+use Rattle.files.specs.Refusals.{condition_number}
 use Rattle.files.specs.RuleFile.{file_of}
 use Rattle.files.specs.Rules.{rules_of, ValidTable}
 use Rattle.files.specs.TableTest.{table_passes}
-use Rattle.files.specs.Writing.{Put, put, write_answer, Puts, WritesTable, invalid, short, written, WriteRules}
+use Rattle.files.specs.Writing.{Written, Length, Refused, Put, put, write_answer, Puts, written_answer, WritesTable, invalid, short, written, WriteRules}
+use Rattle.files.proofs.Conditions.{refusal_once}
 use Rattle.files.proofs.TableTests.{passes_valid}
 
 -- ---- what is so, is so once, and says when 12 and 20 are given
@@ -82,3 +84,13 @@ module _ (t : Rules) (word : t.required < 2 ^ 64) (out : List ℕ) (r : Written)
 pub write_unique : (t : Rules) (out : List ℕ) (r q : Written) (after other : List ℕ) → WriteRules t out r after → WriteRules t out q other
     → (r ≡ q) × (after ≡ other)
 write_unique t out r q after other h k = so_once t out h.so k.so
+
+-- a result is known by its answer
+pub written_known : (r q : Result ℕ Refusal) → written_answer r ≡ written_answer q → r ≡ q
+written_known (Ok n) (Ok m) e = let f : n ≡ m = cc in ap Ok f
+written_known (Ok n) (Err q) e = absurd (let z : ◌≡◌ {A = ℕ} 0 1 = cc in omega arith)
+written_known (Err r) (Ok m) e = absurd (let z : ◌≡◌ {A = ℕ} 0 1 = cc in omega arith)
+written_known (Err r) (Err q) e =
+    let a : condition_number r.condition ≡ condition_number q.condition = cc in
+    let b : r.offset ≡ q.offset = cc in
+    ap Err (refusal_once r q a b)

@@ -1,8 +1,6 @@
 -- A file of numbers: what number is wanted next, which refusal it meets, and what reading answers.
 use Rattle.std.specs.Prelude.{ℕ, zero, suc, ◌+◌, ◌<◌, ◌≡◌, cond, List, [], ◌∷◌, ◌++◌, length, drop, ltb}
-use Rattle.files.specs.declared.number.Number.{Number}
-use Rattle.files.specs.declared.number.Number.TheVariants.{Is, Refused}
-use Rattle.files.specs.Number.{limit, bytes_of, bytes_of_all, number_in, Cut, TooLong}
+use Rattle.files.specs.Number.{Begun, Is, Refused, limit, bytes_of, bytes_of_all, number_in, Cut, TooLong}
 
 -- a format: nothing more is wanted and a value stands; or a number is wanted, with its own test (0, or the number of the
 -- refusal that it meets) and the format of what follows it
@@ -26,7 +24,7 @@ on_test at follow n width zero = follow n width
 on_test at follow n width (suc k) = refused (suc k) at
 
 -- what stands where a number is wanted: a number is tested, anything else is its refusal
-unfoldable pub on_number : {A : Type 0} → ℕ → (ℕ → ℕ) → (ℕ → ℕ → Outcome A) → Number → Outcome A
+unfoldable pub on_number : {A : Type 0} → ℕ → (ℕ → ℕ) → (ℕ → ℕ → Outcome A) → Begun → Outcome A
 on_number at test follow (Is n width) = on_test at follow n width (test n)
 on_number at test follow (Refused k) = refused k at
 

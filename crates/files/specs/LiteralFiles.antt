@@ -1,8 +1,7 @@
 -- Two rule files byte for byte, with what they say and the whole table that reading them hands back.
 use Rattle.std.specs.Prelude.{ℕ, ◌≡◌, List, [], ◌∷◌}
-use Rattle.files.specs.declared.read.Answer.TheVariants.{Accepted}
 use Rattle.files.specs.declared.rules.Rules.{Rules}
-use Rattle.files.specs.Reading.{read_answer}
+use Rattle.files.specs.Reading.{Accepted, read_answer}
 use Rattle.files.specs.RuleFile.{file_of}
 use Rattle.files.specs.Rules.{padded, rules_of}
 use Rattle.files.specs.Table.{Path, Rule, RuleSet}

@@ -1,7 +1,8 @@
 -- Numbers as 01 lays them down: groups of seven bits, low group first, shortest form only.
-use Rattle.std.specs.Prelude.{ℕ, ◌+◌, ◌*◌, ◌/◌, ◌%◌, ◌<◌, ◌≤◌, cond, List, [], ◌∷◌, ◌++◌, length, get_or, ltb, eqb}
+use Rattle.std.specs.Prelude.{ℕ, Result, Ok, Err, ◌+◌, ◌*◌, ◌/◌, ◌%◌, ◌<◌, ◌≤◌, cond, List, [], ◌∷◌, ◌++◌, length, get_or, ltb, eqb}
 use Rattle.files.specs.declared.number.Number.{Number}
-use Rattle.files.specs.declared.number.Number.TheVariants.{Is, Refused}
+use Rattle.files.specs.declared.refusal.Condition.{Condition}
+use Rattle.files.specs.Refusals.{condition_number}
 
 -- numbers are below this: a number takes at most two bytes
 abbrev pub limit : ℕ
@@ -30,22 +31,32 @@ pub data TooLong : List ℕ → Type 0 where
 pub record Bytes (s : List ℕ) : Type 0 where
   pub below : (i : ℕ) → get_or s i 0 < 256
 
+-- what bytes begin with: a number and how many bytes it takes, or the number of a refusal
+pub data Begun : Type 0 where
+  Is : ℕ → ℕ → Begun
+  Refused : ℕ → Begun
+
+-- what a result says that bytes begin with
+abbrev pub begun : Result Number Condition → Begun
+begun (Ok n) = Is n.value n.width
+begun (Err c) = Refused (condition_number c)
+
 -- the answer of a first byte that says that another follows, and the second byte
-unfoldable pub two_bytes : ℕ → ℕ → Number
+unfoldable pub two_bytes : ℕ → ℕ → Begun
 two_bytes low high = cond (eqb high 0) (Refused 2) (cond (ltb 127 high) (Refused 2) (Is (low % 128 + high * 128) 2))
 
 -- the answer of a first byte that says that another follows, and what stands after it
-unfoldable pub second_in : ℕ → List ℕ → Number
+unfoldable pub second_in : ℕ → List ℕ → Begun
 second_in low [] = Refused 1
 second_in low (high ∷ rest) = two_bytes low high
 
 -- the number that bytes begin with, and how many of them it takes, or its refusal
-unfoldable pub number_in : List ℕ → Number
+unfoldable pub number_in : List ℕ → Begun
 number_in [] = Refused 1
 number_in (low ∷ rest) = cond (ltb low 128) (Is low 1) (second_in low rest)
 
 -- the three things that bytes can begin with, each with its answer
-pub data Begins : List ℕ → Number → Type 0 where
+pub data Begins : List ℕ → Begun → Type 0 where
   number : {n : ℕ} (rest : List ℕ) → n < limit → Begins (bytes_of n ++ rest) (Is n (length (bytes_of n)))
   cut : {s : List ℕ} → Cut s → Begins s (Refused 1)
   long : {s : List ℕ} → TooLong s → Begins s (Refused 2)

@@ -79,3 +79,8 @@ pub data Ascending : ℕ → List ℕ → Type 0 where
 pub record UpTo64 (value r : ℕ) : Type 0 where
   pub is : r ≡ value
   pub small : r ≤ 64
+
+-- the words of the paths of a list join what is there already
+unfoldable pub join_words : (word : ℕ → ℕ) (zs : List ℕ) (joined : ℕ) → ℕ
+join_words word [] joined = joined
+join_words word (z ∷ rest) joined = join_words word rest (union joined (word z))

@@ -1,5 +1,5 @@
 -- The test behind refusal 12, computed: the paths, the required paths and the rules of a table handed in, each by its own part.
-use Rattle.std.specs.Prelude.{ℕ, ◌+◌, ◌-◌, Bool, true, false, cond, List, [], ◌∷◌, ◌++◌, length, get_or, ltb, eqb}
+use Rattle.std.specs.Prelude.{ℕ, Option, Some, None, ◌+◌, ◌-◌, Bool, true, false, cond, List, [], ◌∷◌, ◌++◌, length, get_or, ltb, eqb}
 use Rattle.files.specs.declared.rules.Rules.{Rules}
 use Rattle.files.specs.Number.{limit}
 use Rattle.files.specs.RuleFile.{between, parent_test, label_test, depths}
@@ -24,6 +24,11 @@ paths_pass ps (p ∷ rest) = both (path_passes ps p) (paths_pass (ps ++ (p ∷ [
 -- the depth of a path that passes its tests after the paths ps, else 0
 unfoldable pub passing_depth : List Path → ℕ → ℕ → ℕ
 passing_depth ps p l = cond (path_passes ps (record { parent = p; label = l })) (1 + get_or (depths ps) p 0) 0
+
+-- the depth that was found, else 0
+abbrev pub depth_number : Option ℕ → ℕ
+depth_number None = 0
+depth_number (Some d) = d
 
 -- rule number x, as the arrays have it
 abbrev pub rule_at : List ℕ → List ℕ → List ℕ → ℕ → Rule

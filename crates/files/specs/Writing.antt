@@ -1,13 +1,23 @@
 -- Writing a rule file: what the answer and the buffer are.
-use Rattle.std.specs.Prelude.{ℕ, ◌-◌, ◌%◌, ◌<◌, ◌≤◌, ◌≡◌, ◌↔◌, cond, List, ◌∷◌, ◌++◌, map, length, get_or, drop, leb}
+use Rattle.std.specs.Prelude.{ℕ, Result, Ok, Err, ◌-◌, ◌%◌, ◌<◌, ◌≤◌, ◌≡◌, ◌↔◌, cond, List, ◌∷◌, ◌++◌, map, length, get_or, drop, leb}
 use Rattle.files.specs.declared.rules.Rules.{Rules}
-use Rattle.files.specs.declared.write.Written.{Written}
-use Rattle.files.specs.declared.write.Written.TheVariants.{Length, Refused}
+use Rattle.files.specs.declared.refusal.Refusal.{Refusal}
+use Rattle.files.specs.Refusals.{condition_number}
 use Rattle.files.specs.Number.{limit}
 use Rattle.files.specs.RuleFile.{path_numbers, rule_numbers, file_of}
 use Rattle.files.specs.Rules.{rules_of, paths_from, rules_from, ValidTable}
 use Rattle.files.specs.Sets.{members}
 use Rattle.files.specs.TableTest.{table_passes}
+
+-- the answer of writing: how many bytes were written, or the refusal's number and offset
+pub data Written : Type 0 where
+  Length : ℕ → Written
+  Refused : ℕ → ℕ → Written
+
+-- the answer that a result is
+abbrev pub written_answer : Result ℕ Refusal → Written
+written_answer (Ok n) = Length n
+written_answer (Err r) = Refused (condition_number r.condition) r.offset
 
 -- an answer with what the lent buffer then holds
 pub record Put : Type 0 where

@@ -1,64 +1,46 @@
 // Numbers in groups of seven bits, low group first, in at most two bytes.
-ghost use Rattle.std.specs.Prelude.{◌+◌, ◌%◌, ◌≤◌, ◌<◌, ◌≡◌, length, drop};
+ghost use Rattle.std.specs.Prelude.{◌+◌, ◌%◌, ◌^◌, IfOk, ◌≤◌, ◌<◌, ◌≡◌, length, drop};
 ghost use Rattle.std.proofs.lemmas.List.Edits.{sets};
-ghost use Rattle.files.specs.Number.{limit, bytes_of, number_in, two_bytes};
+ghost use Rattle.files.specs.Number.{limit, bytes_of, number_in, two_bytes, begun};
 
-// What bytes begin with: a number's value and how many bytes it takes, or the refusal, 1 or 2.
-#[derive(Clone, Copy)]
-pub enum Number {
-    Is(u32, usize),
-    Refused(u8),
-}
+use crate::refusal::Condition;
 
-pub(crate) fn wide32(b: u8) -> u32
-    ensures { (result ≡ b) × (result < 256) }
-{
-    b as u32
-}
-
-pub fn wide(b: u8) -> usize
-    ensures { (result ≡ b) × (result < 256) }
-{
-    b as usize
-}
-
-pub fn wide_number(n: u32) -> usize
-    ensures { result ≡ n }
-{
-    n as usize
+// A number that bytes begin with, and how many of them it takes.
+#[derive(Clone, Copy, Debug, PartialEq, Eq)]
+pub struct Number {
+    pub value: u32,
+    pub width: usize,
 }
 
 // The second byte `high` of a number after the first, `low`, which says that another follows.
 #[tactic(auto, using(crate::proofs::Numbers::two_laws))]
-fn second(low: u32, high: u32) -> Number
+fn second(low: u32, high: u32) -> Result<Number, Condition>
     requires { high < 256 }
-    ensures { result ≡ two_bytes low high }
+    ensures { begun result ≡ two_bytes low high }
 {
-    if high == 0 {
-        return Number::Refused(2);
+    if high == 0 || 127 < high {
+        return Err(Condition::TooLong);
     }
-    if 127 < high {
-        return Number::Refused(2);
-    }
-    Number::Is(low % 128 + high * 128, 2)
+    Ok(Number {
+        value: low % 128 + high * 128,
+        width: 2,
+    })
 }
 
 // The number at `at`.
-pub fn read_number(s: &[u8], at: usize) -> Number
-    ensures { result ≡ number_in (drop at s.now) }
+pub fn read_number(s: &[u8], at: usize) -> Result<Number, Condition>
+    ensures begun { begun result ≡ number_in (drop at s.now) }
+    ensures fits { IfOk result (λ n. at + n.width < 2 ^ 64) }
 {
-    if s.len() <= at {
-        return Number::Refused(1);
-    }
-    let low = wide32(s[at]);
+    let low = u32::from(*s.get(at).ok_or(Condition::Cut)?);
     if low < 128 {
-        return Number::Is(low, 1);
+        return Ok(Number {
+            value: low,
+            width: 1,
+        });
     }
-    let next = at + 1;
-    if s.len() <= next {
-        return Number::Refused(1);
-    }
-    second(low, wide32(s[next]))
+    let high = u32::from(*s.get(at + 1).ok_or(Condition::Cut)?);
+    second(low, high)
 }
 
 // How many bytes the number takes.

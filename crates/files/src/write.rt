@@ -1,33 +1,29 @@
 // Writing a rule file into a lent buffer.
-ghost use Rattle.std.specs.Prelude.{◌+◌, ◌*◌, ◌≤◌, ◌<◌, ◌≡◌, length};
+ghost use Rattle.std.specs.Prelude.{◌+◌, ◌*◌, ◌≤◌, ◌<◌, ◌≡◌, ◌++◌, [], length};
 ghost use Rattle.std.proofs.lemmas.List.Edits.{sets};
 ghost use Rattle.files.specs.Number.{bytes_of_all};
 ghost use Rattle.files.specs.RuleFile.{numbers_of};
 ghost use Rattle.files.specs.Rules.{rules_of};
-ghost use Rattle.files.specs.Sets.{members};
-ghost use Rattle.files.specs.Writing.{put, wrapped, path_section, required_section, rule_section, Puts, WriteRules};
+ghost use Rattle.files.specs.Writing.{put, wrapped, path_section, required_section, rule_section, written_answer, Puts, WriteRules};
 
-use crate::number::{put_number, size_of, wide32};
+use crate::members::Members;
+use crate::number::{put_number, size_of};
+use crate::refusal::{Condition, Refusal};
 use crate::rules::Rules;
 use crate::sets;
 use crate::valid::valid_table;
+use arrayvec::ArrayVec;
 
-// How many bytes were written, or the refusal's number and offset.
-#[derive(Clone, Copy)]
-pub enum Written {
-    Length(usize),
-    Refused(u8, usize),
-}
+// As many as a table gives: 128 for the paths, 65 for those required, 769 for the rules.
+const NUMBERS: usize = 962;
 
 // How many bytes the numbers take.
 fn size_of_all(numbers: &[u32]) -> usize
     ensures { result ≡ length (bytes_of_all (wrapped numbers.now)) }
 {
     let mut size = 0usize;
-    let mut i = 0usize;
-    while i < numbers.len() {
-        size += size_of(numbers[i] % 16384);
-        i += 1;
+    for n in numbers {
+        size += size_of(*n % 16384);
     }
     size
 }
@@ -38,118 +34,80 @@ fn store_all(numbers: &[u32], out: &mut [u8])
     ensures { out.new ≡ sets out.old 0 (bytes_of_all (wrapped numbers.now)) }
 {
     let mut at = 0usize;
-    let mut i = 0usize;
-    while i < numbers.len() {
-        at = put_number(out, at, numbers[i] % 16384);
-        i += 1;
+    for n in numbers {
+        at = put_number(out, at, *n % 16384);
     }
 }
 
-// The numbers' bytes put into `out`: all of them or, where they are longer than it, none (refusal 20).
-pub fn put_numbers(numbers: &[u32], out: &mut [u8]) -> Written
-    ensures { Puts (put (bytes_of_all (wrapped numbers.now)) out.old) result out.new }
+// The numbers' bytes put into `out`, and how many they are; where they are longer than it, none.
+#[tactic(auto, using(crate::proofs::Stores::puts_laws))]
+pub fn put_numbers(numbers: &[u32], out: &mut [u8]) -> Result<usize, Refusal>
+    ensures { Puts (put (bytes_of_all (wrapped numbers.now)) out.old) (written_answer result) out.new }
 {
     let size = size_of_all(numbers);
     if out.len() < size {
-        return Written::Refused(20, 0);
+        return Err(Condition::Room.at(0));
     }
     store_all(numbers, out);
-    Written::Length(size)
+    Ok(size)
 }
 
-// Path count, root label, parents and labels stored at the start; the place after them.
-fn collect_paths(
-    parent: &[u8; 64],
-    label: &[u32; 64],
-    count: usize,
-    numbers: &mut [u32; 1024],
-) -> usize
-    requires { (1 ≤ count) × (count ≤ 64) }
-    ensures { (result ≡ 2 * count)
-        × (numbers.new ≡ sets numbers.old 0 (path_section parent.now label.now count)) }
+// Path count, root label, parents and labels, as the first numbers.
+fn collect_paths(rules: &Rules, numbers: &mut ArrayVec<u32, NUMBERS>)
+    requires { (1 ≤ rules.now.paths) × (rules.now.paths ≤ 64) × (numbers.old.items ≡ []) }
+    ensures { numbers.new.items ≡ path_section rules.now.parent rules.now.label rules.now.paths }
 {
-    numbers[0] = count as u32;
-    numbers[1] = label[0];
-    let mut at = 2usize;
-    let mut x = 1usize;
-    while x < count {
-        numbers[at] = wide32(parent[x]);
-        numbers[at + 1] = label[x];
-        at += 2;
-        x += 1;
+    numbers.push(rules.paths as u32);
+    numbers.push(rules.label[0]);
+    for x in 1..rules.paths {
+        numbers.push(u32::from(rules.parent[x]));
+        numbers.push(rules.label[x]);
     }
-    at
 }
 
-// Required count and required paths stored from `start` on; the place after them.
-fn collect_required(required: u64, start: usize, numbers: &mut [u32; 1024]) -> usize
-    requires { start ≤ 128 }
-    ensures { (result ≡ start + 1 + length (members required))
-        × (result ≤ start + 65)
-        × (numbers.new ≡ sets numbers.old start (required_section required)) }
+// Required count and required paths after the numbers that are there.
+fn collect_required(required: u64, numbers: &mut ArrayVec<u32, NUMBERS>)
+    requires { length numbers.old.items ≤ 128 }
+    ensures { numbers.new.items ≡ numbers.old.items ++ required_section required }
 {
-    numbers[start] = sets::size(required) as u32;
-    let mut at = start + 1;
-    let mut rest = required;
-    while rest != 0 {
-        numbers[at] = sets::lowest(rest) as u32;
-        rest = sets::without_lowest(rest);
-        at += 1;
+    numbers.push(sets::size(required) as u32);
+    for x in Members(required) {
+        numbers.push(x as u32);
     }
-    at
 }
 
-// Rule count and rules stored from `start` on; the place after them.
-fn collect_rules(
-    kind: &[u8; 256],
-    left: &[u8; 256],
-    right: &[u8; 256],
-    many: usize,
-    start: usize,
-    numbers: &mut [u32; 1024],
-) -> usize
-    requires { (many ≤ 256) × (start ≤ 193) }
-    ensures { (result ≡ start + 1 + 3 * many)
-        × (numbers.new ≡ sets numbers.old start (rule_section kind.now left.now right.now many)) }
+// Rule count and rules after the numbers that are there.
+fn collect_rules(rules: &Rules, numbers: &mut ArrayVec<u32, NUMBERS>)
+    requires { (rules.now.rules ≤ 256) × (length numbers.old.items ≤ 193) }
+    ensures { numbers.new.items ≡ numbers.old.items ++ rule_section rules.now.kind rules.now.left rules.now.right rules.now.rules }
 {
-    numbers[start] = many as u32;
-    let mut at = start + 1;
-    let mut x = 0usize;
-    while x < many {
-        numbers[at] = wide32(kind[x]);
-        numbers[at + 1] = wide32(left[x]);
-        numbers[at + 2] = wide32(right[x]);
-        at += 3;
-        x += 1;
+    numbers.push(rules.rules as u32);
+    for x in 0..rules.rules {
+        numbers.push(u32::from(rules.kind[x]));
+        numbers.push(u32::from(rules.left[x]));
+        numbers.push(u32::from(rules.right[x]));
     }
-    at
 }
 
-// The numbers of the rule file stored at the start; how many they are.
-fn collect(rules: Rules, numbers: &mut [u32; 1024]) -> usize
-    requires { (1 ≤ rules.paths) × (rules.paths ≤ 64) × (rules.rules ≤ 256) }
-    ensures { (result ≡ length (numbers_of (rules_of rules)))
-        × (result ≤ 1024)
-        × (numbers.new ≡ sets numbers.old 0 (numbers_of (rules_of rules))) }
+// The numbers of the rule file.
+fn collect(rules: &Rules) -> ArrayVec<u32, NUMBERS>
+    requires { (1 ≤ rules.now.paths) × (rules.now.paths ≤ 64) × (rules.now.rules ≤ 256) }
+    ensures { result.items ≡ numbers_of (rules_of rules.now) }
 {
-    let parent = rules.parent;
-    let label = rules.label;
-    let after = collect_paths(&parent, &label, rules.paths, numbers);
-    let next = collect_required(rules.required, after, numbers);
-    let kind = rules.kind;
-    let left = rules.left;
-    let right = rules.right;
-    collect_rules(&kind, &left, &right, rules.rules, next, numbers)
+    let mut numbers = ArrayVec::new();
+    collect_paths(rules, &mut numbers);
+    collect_required(rules.required, &mut numbers);
+    collect_rules(rules, &mut numbers);
+    numbers
 }
 
-// The rule file of a table put into `out`: refusal 12 for a table that is not valid, then 20.
-pub fn write_rules(rules: Rules, out: &mut [u8]) -> Written
-    ensures { WriteRules rules out.old result out.new }
+// The rule file of a table put into `out`, and its length: a table that is not valid is refused first, then want of room.
+#[tactic(auto, using(crate::proofs::Writer::write_laws))]
+pub fn write_rules(rules: Rules, out: &mut [u8]) -> Result<usize, Refusal>
+    ensures { WriteRules rules out.old (written_answer result) out.new }
 {
     if !valid_table(rules) {
-        return Written::Refused(12, 0);
+        return Err(Condition::Table.at(0));
     }
-    let mut numbers = [0u32; 1024];
-    let n = collect(rules, &mut numbers);
-    put_numbers(&numbers[..n], out)
+    put_numbers(collect(&rules).as_slice(), out)
 }

@@ -1,25 +1,25 @@
--- Laws of numbers emitted one after the other: what is emitted and what remains, the numbers of children, and how far they go.
-use Prim.Native.Nat.{ℕ, ◌+◌, ◌*◌, ◌%◌, ◌^◌, ◌≤◌, ◌<◌}
-use mathlib.Core.Path.{◌≡◌, refl, sym, ap, ◌∙◌, subst}
+-- Laws of numbers emitted one after the other: in pieces, what remains of them, how much room they take, and the numbers of children.
+use Prim.Native.Nat.{ℕ, ◌+◌, ◌*◌, ◌%◌, ◌≤◌}
+use mathlib.Core.Path.{◌≡◌, refl, sym, ap, ◌∙◌}
 use mathlib.Core.Bool.{Bool, true, false}
 use mathlib.Core.List.{List, [], ◌∷◌, ◌++◌, append_assoc, append-nil}
 use native.Mathlib.Omega.{arith}
 use native.Mathlib.Nat.{mul-suc, mul-le-mul_left}
-use native.Mathlib.Numerals.{add-one}
-use lib.ListN.{length, get_or, length-append}
+use lib.ListN.{length, length-append}
 use lib.Seq.{sets}
 use Rattle.files.specs.Number.{limit, bytes_of, bytes_of_all}
 use Rattle.files.specs.Writing.{wrapped}
-use Rattle.files.specs.Sets.{bit, hasb, union, common, lowest, without_lowest, size_below, size, members}
+use Rattle.files.specs.Sets.{hasb, common, size, members}
 use Rattle.files.proofs.Stores.{sets_append}
-use Rattle.files.proofs.SetBits.{has_under}
-use Rattle.files.proofs.SetLowest.{has_lowest, without_lowest_less}
-use Rattle.files.proofs.SetMembers.{size_le, size_without_lowest, members_take, members_of_zero}
+use Rattle.files.proofs.MembersGone.{next_small}
+use Rattle.files.proofs.SetMembers.{size_le, size_members}
 use Rattle.reachable.specs.Sheet.{row}
-use Rattle.theory.specs.Handed.{gather, each_of, only_if}
-use Rattle.handed.specs.Emit.{size_of, Emitted, number_in, one_number, kids_under, kid_paths, kid_count, kids_on_path}
+use Rattle.theory.specs.Handed.{each_of, only_if}
+use Rattle.handed.specs.Emit.{size_of, Emitted, first_in, number_in, one_number, kids_under, kids_on_path}
+use Rattle.handed.specs.Emitter.{Emits}
+use Rattle.handed.specs.declared.emitter.Emitter.{Emitter}
 
--- ---- what is emitted, and what remains
+-- ---- the bytes of numbers, one list after another
 
 abbrev pub bytes : List ℕ → List ℕ
 bytes numbers = bytes_of_all (wrapped numbers)
@@ -46,45 +46,33 @@ stored_append : (xs ys out : List ℕ) (at : ℕ) → sets out at (bytes (xs ++ 
 unfolding size_of
 stored_append xs ys out at = ap (λ (l : List ℕ). sets out at l) (bytes_both xs ys) ∙ sets_append (bytes xs) (bytes ys) out at
 
--- what remains to be emitted is all that is to be emitted
-pub record Left (rest out : List ℕ) (at : ℕ) (all out₀ : List ℕ) (at₀ : ℕ) : Type 0 where
-  pub place : at + size_of rest ≡ at₀ + size_of all
-  pub buffer : sets out at (bytes rest) ≡ sets out₀ at₀ (bytes all)
+-- ---- in pieces
 
-pub left_start : (all out : List ℕ) (at : ℕ) → Left all out at all out at
-left_start all out at = record { place = refl; buffer = refl }
-
-module _ (rest out : List ℕ) (at : ℕ) (all out₀ : List ℕ) (at₀ : ℕ) (left : Left rest out at all out₀ at₀) where
-  pub left_on : (xs ys after : List ℕ) (next : ℕ) → rest ≡ xs ++ ys → Emitted xs out at after next → Left ys after next all out₀ at₀
-  left_on xs ys after next e m =
-      record {
-        place = omega (arith, ap size_of e, size_append xs ys, left.place, m.place);
-        buffer =
-            rw (m.buffer, m.place)
-            (sym (stored_append xs ys out at) ∙ ap (λ (l : List ℕ). sets out at (bytes l)) (sym e) ∙ left.buffer);
-      }
-
-  pub left_end : rest ≡ [] → Emitted all out₀ at₀ out at
-  left_end e =
-      record {
-        place = omega (arith, ap size_of e, size_none, left.place);
-        buffer = sym (stored_none out at) ∙ ap (λ (l : List ℕ). sets out at (bytes l)) (sym e) ∙ left.buffer;
-      }
-
-pub emitted_none : (xs out : List ℕ) (at : ℕ) → xs ≡ [] → Emitted xs out at out at
-emitted_none xs out at e =
-    record { place = omega (arith, ap size_of e, size_none); buffer = sym (stored_none out at) ∙ ap (λ (l : List ℕ). sets out at (bytes l)) (sym e) }
+pub emits_none : (xs : List ℕ) (most : ℕ) (e : Emitter) → xs ≡ [] → Emits xs most e e
+emits_none xs most e none =
+    record {
+      emitted = record {
+        place = omega (arith, ap size_of none, size_none);
+        buffer = sym (stored_none e.out.now e.at) ∙ ap (λ (l : List ℕ). sets e.out.now e.at (bytes l)) (sym none);
+      };
+      short = omega arith;
+      same = refl;
+    }
 
 -- two pieces, one after the other
-pub emitted_both : (all xs ys : List ℕ) (at : ℕ) → all ≡ xs ++ ys → (out one : List ℕ) (next : ℕ) → Emitted xs out at one next
-    → (two : List ℕ) (last : ℕ) → Emitted ys one next two last → Emitted all out at two last
-emitted_both all xs ys at e out one next m two last n =
+pub emits_both : (all xs ys : List ℕ) (m n k : ℕ) (e mid last : Emitter) → Emits xs n e mid → Emits ys k mid last → all ≡ xs ++ ys → n + k ≤ m
+    → Emits all m e last
+emits_both all xs ys m n k e mid last first second is room =
     record {
-      place = omega (arith, n.place, m.place, ap size_of e, size_append xs ys);
-      buffer =
-          n.buffer
-          ∙ rw (m.buffer, m.place) (sym (stored_append xs ys out at))
-          ∙ ap (λ (l : List ℕ). sets out at (bytes l)) (sym e);
+      emitted = record {
+        place = omega (arith, second.emitted.place, first.emitted.place, ap size_of is, size_append xs ys);
+        buffer =
+            second.emitted.buffer
+            ∙ rw (first.emitted.buffer, first.emitted.place) (sym (stored_append xs ys e.out.now e.at))
+            ∙ ap (λ (l : List ℕ). sets e.out.now e.at (bytes l)) (sym is);
+      };
+      short = omega (arith, first.short, second.short);
+      same = second.same ∙ first.same;
     }
 
 -- ---- a number
@@ -99,118 +87,100 @@ number_stored out at n v s after is size e =
       buffer = e ∙ ap (λ (l : List ℕ). sets out at l) (ap bytes_of same ∙ sym (append-nil (bytes_of (n % limit))));
     }
 
--- ---- the pieces of a set's members
+-- ---- what is emitted, and what remains: `rest`, with room for so many bytes, is what is left of `all`
 
-pub each_take : (f : ℕ → List ℕ) (left x next : ℕ) → (left ≡ 0 → ⊥) → left < 2 ^ 64 → x ≡ lowest left → next ≡ without_lowest left
-    → each_of f (members left) ≡ f x ++ each_of f (members next)
-unfolding each_of
-each_take f left x next some fits e n = rw (e, n) (ap (each_of f) (members_take left (omega (arith, some)) fits))
+pub record Left (rest : List ℕ) (room : ℕ) (e : Emitter) (all : List ℕ) (most : ℕ) (first : Emitter) : Type 0 where
+  pub place : e.at + size_of rest ≡ first.at + size_of all
+  pub buffer : sets e.out.now e.at (bytes rest) ≡ sets first.out.now first.at (bytes all)
+  pub fits : e.at + room ≤ first.at + most
+  pub same : e.out.ghost_name ≡ first.out.ghost_name
 
-pub each_none : (f : ℕ → List ℕ) (left : ℕ) → left ≡ 0 → each_of f (members left) ≡ []
-unfolding each_of
-each_none f left e = ap (each_of f) (ap members e ∙ members_of_zero)
+pub left_start : (all : List ℕ) (room most : ℕ) (e : Emitter) → room ≤ most → Left all room e all most e
+left_start all room most e fits = record { place = refl; buffer = refl; fits = omega arith; same = refl }
 
-module _ (f : ℕ → List ℕ) (left : ℕ) (out : List ℕ) (at : ℕ) (all out₀ : List ℕ) (at₀ : ℕ)
-    (inv : Left (each_of f (members left)) out at all out₀ at₀) where
-  pub each_on : (x next : ℕ) (after : List ℕ) (place : ℕ) → (left ≡ 0 → ⊥) → left < 2 ^ 64 → x ≡ lowest left → next ≡ without_lowest left
-      → Emitted (f x) out at after place → Left (each_of f (members next)) after place all out₀ at₀
-  each_on x next after place some fits e n m =
-      left_on (each_of f (members left)) out at all out₀ at₀ inv (f x) (each_of f (members next)) after place
-      (each_take f left x next some fits e n) m
+module _ (rest : List ℕ) (room : ℕ) (e : Emitter) (all : List ℕ) (most : ℕ) (first : Emitter) (left : Left rest room e all most first) where
+  pub left_on : (xs ys : List ℕ) (n more : ℕ) (next : Emitter) → Emits xs n e next → rest ≡ xs ++ ys → room ≡ n + more
+      → Left ys more next all most first
+  left_on xs ys n more next m is r =
+      record {
+        place = omega (arith, ap size_of is, size_append xs ys, left.place, m.emitted.place);
+        buffer =
+            rw (m.emitted.buffer, m.emitted.place)
+            (sym (stored_append xs ys e.out.now e.at) ∙ ap (λ (l : List ℕ). sets e.out.now e.at (bytes l)) (sym is) ∙ left.buffer);
+        fits = omega (arith, left.fits, m.short, r);
+        same = m.same ∙ left.same;
+      }
 
-  pub each_end : left ≡ 0 → Emitted all out₀ at₀ out at
-  each_end e = left_end (each_of f (members left)) out at all out₀ at₀ inv (each_none f left e)
+  pub left_end : rest ≡ [] → Emits all most first e
+  left_end none =
+      record {
+        emitted = record {
+          place = omega (arith, ap size_of none, size_none, left.place);
+          buffer = sym (stored_none e.out.now e.at) ∙ ap (λ (l : List ℕ). sets e.out.now e.at (bytes l)) (sym none) ∙ left.buffer;
+        };
+        short = omega (arith, left.fits);
+        same = left.same;
+      }
 
-module _ (left next : ℕ) (some : left ≡ 0 → ⊥) where
-  pub set_less : left < 2 ^ 64 → next ≡ without_lowest left → next < left
-  set_less fits e = omega (arith, without_lowest_less left (omega (arith, some)) fits)
+-- ---- the pieces of the members of a list, each at most n bytes
 
-  pub set_fits : left < 2 ^ 64 → next ≡ without_lowest left → next < 2 ^ 64
-  set_fits fits e = omega (arith, set_less fits e)
+unfoldable pub room : (n : ℕ) (xs : List ℕ) → ℕ
+room n xs = n * length xs
 
-  pub set_low : (x : ℕ) → left < 2 ^ 64 → x ≡ lowest left → x < 64
-  set_low x fits e =
-      subst (λ (y : ℕ). y < 64) (sym e) (has_under left 64 (lowest left) fits (has_lowest left (omega (arith, some)) fits))
+pub members_room : (n w most : ℕ) → n * 64 ≤ most → room n (members w) ≤ most
+unfolding room
+members_room n w most h = omega (arith, mul-le-mul_left n (size_le w), ap (λ (s : ℕ). n * s) (size_members w))
 
-pub ruleset set_laws = (set_less, set_fits, set_low)
+module _ (n : ℕ) (xs : List ℕ) (x : ℕ) (rest : List ℕ) (e : xs ≡ x ∷ rest) where
+  pub room_step : room n xs ≡ n + room n rest
+  unfolding room
+  room_step = ap (λ (l : List ℕ). n * length l) e ∙ omega (arith, mul-suc n (length rest))
 
--- ---- how far a set's pieces go
+module _ (f : ℕ → List ℕ) (n : ℕ) (xs : List ℕ) (e : Emitter) (all : List ℕ) (most : ℕ) (first : Emitter)
+    (left : Left (each_of f xs) (room n xs) e all most first) where
+  pub each_room : (x : ℕ) (rest : List ℕ) (limit : ℕ) → xs ≡ x ∷ rest → first.at + most ≤ limit → e.at + n ≤ limit
+  each_room x rest limit is fits = omega (arith, left.fits, room_step n xs x rest is)
 
--- the pieces of so many members, each at most n
-unfoldable pub most : (n left : ℕ) → ℕ
-most n left = n * size left
+  pub each_on : (x : ℕ) (rest : List ℕ) (next : Emitter) → xs ≡ x ∷ rest → Emits (f x) n e next
+      → Left (each_of f rest) (room n rest) next all most first
+  unfolding each_of
+  each_on x rest next is m =
+      left_on (each_of f xs) (room n xs) e all most first left (f x) (each_of f rest) n (room n rest) next m (ap (each_of f) is)
+      (room_step n xs x rest is)
 
-pub far_start : (n m left start : ℕ) → n * 64 ≤ m → start + most n left ≤ start + m
-unfolding most
-far_start n m left start h = omega (arith, mul-le-mul_left n (size_le left))
+  pub each_end : xs ≡ [] → Emits all most first e
+  unfolding each_of
+  each_end none = left_end (each_of f xs) (room n xs) e all most first left (ap (each_of f) none)
 
-module _ (n left at v : ℕ) (h : at + most n left ≤ v) where
-  module _ (some : left ≡ 0 → ⊥) (fits : left < 2 ^ 64) where
-    far_step : most n left ≡ most n (without_lowest left) + n
-    unfolding most
-    far_step =
-        ap (λ (s : ℕ). n * s) (sym (size_without_lowest left (omega (arith, some)) fits) ∙ add-one (size (without_lowest left)))
-        ∙ mul-suc n (size (without_lowest left))
-
-    pub far_on : (next r : ℕ) → next ≡ without_lowest left → r ≤ at + n → r + most n next ≤ v
-    far_on next r e k = omega (arith, far_step, ap (most n) e)
-
-    pub far_room : (m : ℕ) → v ≤ m → at + n ≤ m
-    far_room m k = omega (arith, far_step)
-
-  pub far_end : at ≤ v
-  far_end = omega arith
-
-pub ruleset far_laws = (far_start, far_on, far_room, far_end)
+pub ruleset each_laws = (left_start, members_room, each_room, each_on, each_end, next_small)
 
 -- ---- the numbers of children
 
-pub number_is : (plan : List ℕ) (k g whole goals b s i p : ℕ) → whole ≡ get_or plan 192 0 → goals ≡ get_or plan k 0 → b ≡ bit whole k → s ≡ size_below goals g
-    → p ≡ get_or plan (128 + k) 0 % 65536 → i ≡ b + s → p + i ≡ number_in plan k g
-unfolding number_in
-number_is plan k g whole goals b s i p w l e f h j = rw (j, e, f, h, w, l)
-
-pub goal_on : (plan : List ℕ) (k left : ℕ) (out : List ℕ) (at : ℕ) (all out₀ : List ℕ) (at₀ : ℕ)
-    → Left (each_of (one_number plan k) (members left)) out at all out₀ at₀ → (left ≡ 0 → ⊥) → left < 2 ^ 64
-    → (x n next : ℕ) (after : List ℕ) (place : ℕ) → x ≡ lowest left → n ≡ number_in plan k x → next ≡ without_lowest left
-    → Emitted (n ∷ []) out at after place → Left (each_of (one_number plan k) (members next)) after place all out₀ at₀
+pub goal_on : (plan : List ℕ) (k : ℕ) (xs : List ℕ) (e : Emitter) (all : List ℕ) (most : ℕ) (first : Emitter)
+    → Left (each_of (one_number plan k) xs) (room 2 xs) e all most first → (x n : ℕ) (rest : List ℕ) (next : Emitter) → xs ≡ x ∷ rest
+    → n ≡ number_in plan k x → Emits (n ∷ []) 2 e next → Left (each_of (one_number plan k) rest) (room 2 rest) next all most first
 unfolding one_number
-goal_on plan k left out at all out₀ at₀ inv some fits x n next after place low is e m =
-    each_on (one_number plan k) left out at all out₀ at₀ inv x next after place some fits low e (rw is at m)
+goal_on plan k xs e all most first left x n rest next is number m =
+    each_on (one_number plan k) 2 xs e all most first left x rest next is (rw (← number) m)
 
-pub ruleset goal_laws = (goal_on, left_start, each_end, set_laws, far_laws)
+pub ruleset goal_laws = (left_start, members_room, each_room, goal_on, each_end)
 
-module _ (plan : List ℕ) (k : ℕ) (all : Bool) (goals : ℕ) (out : List ℕ) (at : ℕ) where
-  pub under_all : (n : ℕ) (one two : List ℕ) (next last : ℕ) → all ≡ true → n ≡ get_or plan (128 + k) 0 % 65536 → Emitted (n ∷ []) out at one next
-      → Emitted (each_of (one_number plan k) (members goals)) one next two last → Emitted (kids_under plan k all goals) out at two last
-  unfolding kids_under only_if
-  under_all n one two next last h e m r =
-      emitted_both (kids_under plan k all goals) (n ∷ []) (each_of (one_number plan k) (members goals)) at (rw (h, e)) out one next m two last r
+module _ (plan : List ℕ) (more k : ℕ) (e : Emitter) where
+  pub first_in_more : (t : Bool) (n : ℕ) (next : Emitter) → t ≡ hasb more k → t ≡ true → n ≡ first_in plan k → Emits (n ∷ []) 2 e next
+      → Emits (only_if (hasb more k) (first_in plan k)) 2 e next
+  unfolding only_if
+  first_in_more t n next is h number m = rw (← is, h, ← number) m
 
-  pub under_ones : (two : List ℕ) (last : ℕ) → all ≡ false → Emitted (each_of (one_number plan k) (members goals)) out at two last
-      → Emitted (kids_under plan k all goals) out at two last
-  unfolding kids_under only_if
-  under_ones two last h r = rw h r
+  pub first_not_in_more : (t : Bool) → t ≡ hasb more k → t ≡ false → Emits (only_if (hasb more k) (first_in plan k)) 2 e e
+  unfolding only_if
+  first_not_in_more t is h = emits_none (only_if (hasb more k) (first_in plan k)) 2 e (rw (← is, h))
 
-pub ruleset under_laws = (under_all, under_ones)
+pub ruleset first_laws = (first_in_more, first_not_in_more)
 
-pub kid_paths_are : (sheet : List ℕ) (c more w a u k r : ℕ) → a ≡ gather (λ g. row 1024 sheet g) 64 w 0 → u ≡ union more a → k ≡ row 1152 sheet c
-    → r ≡ common u k → r ≡ kid_paths sheet c more w
-unfolding kid_paths
-kid_paths_are sheet c more w a u k r e f g h = rw (← e, ← f, ← g) h
-
-pub kid_count_is : (sheet : List ℕ) (c more w k m s n : ℕ) → k ≡ row 1152 sheet c → m ≡ common more k → s ≡ size m → n ≡ size w
-    → s + n ≡ kid_count sheet c more w
-unfolding kid_count
-kid_count_is sheet c more w k m s n e f g h = rw (g, h, f, e)
-
-pub path_on : (sheet plan : List ℕ) (more w left : ℕ) (out : List ℕ) (at : ℕ) (all out₀ : List ℕ) (at₀ : ℕ)
-    → Left (each_of (kids_on_path sheet plan more w) (members left)) out at all out₀ at₀ → (left ≡ 0 → ⊥) → left < 2 ^ 64
-    → (x b goals next : ℕ) (t : Bool) (after : List ℕ) (place : ℕ) → x ≡ lowest left → b ≡ row 1088 sheet x → goals ≡ common w b → t ≡ hasb more x
-    → next ≡ without_lowest left → Emitted (kids_under plan x t goals) out at after place
-    → Left (each_of (kids_on_path sheet plan more w) (members next)) after place all out₀ at₀
-unfolding kids_on_path
-path_on sheet plan more w left out at all out₀ at₀ inv some fits x b goals next t after place low be g th e m =
-    each_on (kids_on_path sheet plan more w) left out at all out₀ at₀ inv x next after place some fits low e (rw (th, g, be) at m)
-
-pub ruleset kids_laws = (path_on, left_start, each_end, set_laws, far_laws)
+pub path_emitted : (sheet plan : List ℕ) (more w x b goals : ℕ) (e mid next : Emitter) → b ≡ row 1088 sheet x → goals ≡ common w b
+    → Emits (only_if (hasb more x) (first_in plan x)) 2 e mid → Emits (each_of (one_number plan x) (members goals)) 128 mid next
+    → Emits (kids_on_path sheet plan more w x) 130 e next
+unfolding kids_on_path kids_under
+path_emitted sheet plan more w x b goals e mid next be g m n =
+    emits_both (kids_on_path sheet plan more w x) (only_if (hasb more x) (first_in plan x)) (each_of (one_number plan x) (members goals)) 130 2 128 e mid
+    next m n (rw (g, be)) (omega arith)

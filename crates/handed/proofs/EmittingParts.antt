@@ -1,116 +1,102 @@
--- Laws of the parts emitted: a part's numbers, the parts on a path, those on all paths by depth, and the document's bytes.
-use Prim.Native.Nat.{ℕ, suc, ◌+◌, ◌-◌, ◌^◌, ◌≤◌, ◌<◌}
+-- Laws of the parts emitted: a part's numbers, the parts on a path, those on all paths in their order, and the document's bytes.
+use Prim.Native.Nat.{ℕ, ◌*◌, ◌≤◌, ◌<◌}
 use mathlib.Core.Path.{◌≡◌, refl, ap, ◌∙◌, subst}
 use mathlib.Core.Bool.{Bool, true, false}
-use mathlib.Core.List.{List, [], ◌∷◌, ◌++◌}
+use mathlib.Core.List.{List, [], ◌∷◌}
 use native.Mathlib.Omega.{arith}
 use lib.ListN.{length, get_or}
 use Rattle.files.specs.Number.{bytes_of_all}
-use Rattle.files.specs.Sets.{hasb, with_path, lowest, without_lowest, members}
-use Rattle.files.specs.Writing.{wrapped, put, Puts}
-use Rattle.files.specs.declared.write.Written.{Written}
-use Rattle.files.specs.declared.write.Written.TheVariants.{Length, Refused}
+use Rattle.files.specs.Sets.{hasb, members}
+use Rattle.files.specs.Writing.{Written, Length, Refused, wrapped, put, Puts}
+use native.Mathlib.Nat.{mul-le-mul_left}
+use Rattle.files.proofs.MembersGone.{next_small}
 use Rattle.files.proofs.Stores.{puts_none, puts_all}
 use Rattle.reachable.specs.Sheet.{slot_of}
 use Rattle.theory.specs.Handed.{each_of}
-use Rattle.theory.proofs.Sizes.{each_append}
 use Rattle.handed.specs.Goals.{one_in}
-use Rattle.handed.specs.Plan.{whole_in, all_for, under_in, layers_in, order_in, placing, place_each, plan_paths, opened, planned, Placing}
+use Rattle.handed.specs.Plan.{whole_in, all_for, order_in, placing, place_each, plan_paths, opened, planned, Placing}
 use Rattle.handed.specs.Emit.{size_of, Emitted, kid_paths, kid_count, kids_on_path, part_in, one_part_in, whole_part_in, parts_numbers}
 use Rattle.handed.specs.Writer.{document_in}
-use Rattle.handed.proofs.Emitting.{Left, left_start, left_on, left_end, emitted_none, emitted_both, each_on, each_end, set_laws, far_laws}
+use Rattle.handed.specs.Emitter.{Emits}
+use Rattle.handed.specs.declared.emitter.Emitter.{Emitter}
+use Rattle.handed.proofs.Emitting.{Left, left_start, emits_none, emits_both, room, members_room, each_room, each_on, each_end}
+use Rattle.handed.proofs.Ordering.{order_few}
 
 -- ---- the numbers of a part
 
-pub part_emitted : (sheet plan : List ℕ) (c more w on many : ℕ) → on ≡ kid_paths sheet c more w → many ≡ kid_count sheet c more w
-    → (out one two three : List ℕ) (at after next last : ℕ) → Emitted (c ∷ []) out at one after → Emitted (many ∷ []) one after two next
-    → Emitted (each_of (kids_on_path sheet plan more w) (members on)) two next three last → Emitted (part_in sheet plan c more w) out at three last
+pub part_emitted : (sheet plan : List ℕ) (c more w on many : ℕ) (e one two last : Emitter) → Emits (c ∷ []) 2 e one → Emits (many ∷ []) 2 one two
+    → Emits (each_of (kids_on_path sheet plan more w) (members on)) 8320 two last → on ≡ kid_paths sheet c more w → many ≡ kid_count sheet c more w
+    → Emits (part_in sheet plan c more w) 8324 e last
 unfolding part_in
-part_emitted sheet plan c more w on many e f out one two three at after next last l m n =
+part_emitted sheet plan c more w on many e one two last l m n is count =
     let kids : List ℕ = each_of (kids_on_path sheet plan more w) (members on) in
-    emitted_both (part_in sheet plan c more w) (c ∷ []) (many ∷ kids) at (rw (e, f)) out one after l three last
-    (emitted_both (many ∷ kids) (many ∷ []) kids after refl one two next m three last n)
+    emits_both (part_in sheet plan c more w) (c ∷ []) (many ∷ kids) 8324 2 8322 e one last l
+    (emits_both (many ∷ kids) (many ∷ []) kids 8322 2 8320 one two last m n refl (omega arith)) (rw (is, count)) (omega arith)
 
 -- ---- the parts on a path
 
 module _ (sheet plan : List ℕ) (c : ℕ) where
-  pub ones_start : (d left : ℕ) (out : List ℕ) (at : ℕ) → d ≡ slot_of sheet c → left ≡ get_or plan c 0
-      → Left (each_of (one_part_in sheet plan d c) (members left)) out at
-      (each_of (one_part_in sheet plan (slot_of sheet c) c) (members (get_or plan c 0))) out at
-  ones_start d left out at e f = rw (e, f) (left_start (each_of (one_part_in sheet plan (slot_of sheet c) c) (members (get_or plan c 0))) out at)
+  pub ones_start : (d left : ℕ) (e : Emitter) → d ≡ slot_of sheet c → left ≡ get_or plan c 0
+      → Left (each_of (one_part_in sheet plan d c) (members left)) (room 8324 (members left)) e
+      (each_of (one_part_in sheet plan (slot_of sheet c) c) (members (get_or plan c 0))) 532736 e
+  ones_start d left e slot goals =
+      rw (slot, goals)
+      (left_start (each_of (one_part_in sheet plan (slot_of sheet c) c) (members (get_or plan c 0))) (room 8324 (members (get_or plan c 0))) 532736 e
+      (members_room 8324 (get_or plan c 0) 532736 (omega arith)))
 
-  pub one_on : (d left : ℕ) (out : List ℕ) (at : ℕ) (all out₀ : List ℕ) (at₀ : ℕ)
-      → Left (each_of (one_part_in sheet plan d c) (members left)) out at all out₀ at₀ → (left ≡ 0 → ⊥) → left < 2 ^ 64
-      → (x w next : ℕ) (after : List ℕ) (place : ℕ) → x ≡ lowest left → w ≡ one_in sheet d c x → next ≡ without_lowest left
-      → Emitted (part_in sheet plan c 0 w) out at after place → Left (each_of (one_part_in sheet plan d c) (members next)) after place all out₀ at₀
+  pub one_on : (d : ℕ) (xs : List ℕ) (e : Emitter) (all : List ℕ) (most : ℕ) (first : Emitter)
+      → Left (each_of (one_part_in sheet plan d c) xs) (room 8324 xs) e all most first → (x w : ℕ) (rest : List ℕ) (next : Emitter) → xs ≡ x ∷ rest
+      → w ≡ one_in sheet d c x → Emits (part_in sheet plan c 0 w) 8324 e next
+      → Left (each_of (one_part_in sheet plan d c) rest) (room 8324 rest) next all most first
   unfolding one_part_in
-  one_on d left out at all out₀ at₀ inv some fits x w next after place low is e m =
-      each_on (one_part_in sheet plan d c) left out at all out₀ at₀ inv x next after place some fits low e (rw is at m)
+  one_on d xs e all most first left x w rest next is kids m =
+      each_on (one_part_in sheet plan d c) 8324 xs e all most first left x rest next is (rw (← kids) m)
 
-  module _ (whole : ℕ) (t : Bool) (w : whole ≡ get_or plan 192 0) (is : t ≡ hasb whole c) (out : List ℕ) (at : ℕ) where
+  module _ (whole : ℕ) (t : Bool) (w : whole ≡ get_or plan 192 0) (is : t ≡ hasb whole c) (e : Emitter) where
     test : t ≡ hasb (whole_in plan) c
     test = is ∙ ap (λ (z : ℕ). hasb z c) w
 
-    pub all_in_lem : (more kids : ℕ) (after : List ℕ) (next : ℕ) → t ≡ true → more ≡ get_or plan 192 0 → kids ≡ all_for sheet plan c
-        → Emitted (part_in sheet plan c more kids) out at after next → Emitted (whole_part_in sheet plan c) out at after next
+    pub whole_there : (more kids : ℕ) (next : Emitter) → t ≡ true → more ≡ get_or plan 192 0 → kids ≡ all_for sheet plan c
+        → Emits (part_in sheet plan c more kids) 8324 e next → Emits (whole_part_in sheet plan c) 8324 e next
     unfolding whole_part_in
-    all_in_lem more kids after next h e f m = rw (whole_part_in, ← test, h, ← f, ← e) m
+    whole_there more kids next h all goals m = rw (whole_part_in, ← test, h, ← goals, ← all) m
 
-    pub all_out : t ≡ false → Emitted (whole_part_in sheet plan c) out at out at
+    pub whole_absent : t ≡ false → Emits (whole_part_in sheet plan c) 8324 e e
     unfolding whole_part_in
-    all_out h = emitted_none (whole_part_in sheet plan c) out at (rw (whole_part_in, ← test, h))
+    whole_absent h = emits_none (whole_part_in sheet plan c) 8324 e (rw (whole_part_in, ← test, h))
 
-  pub parts_both : (out one two : List ℕ) (at next last : ℕ) → Emitted (whole_part_in sheet plan c) out at one next
-      → Emitted (each_of (one_part_in sheet plan (slot_of sheet c) c) (members (get_or plan c 0))) one next two last
-      → Emitted (parts_numbers sheet plan c) out at two last
+  pub parts_both : (e mid last : Emitter) → Emits (whole_part_in sheet plan c) 8324 e mid
+      → Emits (each_of (one_part_in sheet plan (slot_of sheet c) c) (members (get_or plan c 0))) 532736 mid last
+      → Emits (parts_numbers sheet plan c) 541060 e last
   unfolding parts_numbers
-  parts_both out one two at next last m n =
-      emitted_both (parts_numbers sheet plan c) (whole_part_in sheet plan c)
-      (each_of (one_part_in sheet plan (slot_of sheet c) c) (members (get_or plan c 0))) at refl out one next m two last n
+  parts_both e mid last m n =
+      emits_both (parts_numbers sheet plan c) (whole_part_in sheet plan c)
+      (each_of (one_part_in sheet plan (slot_of sheet c) c) (members (get_or plan c 0))) 541060 8324 532736 e mid last m n refl (omega arith)
 
-pub ruleset ones_laws = (ones_start, one_on, each_end, set_laws, far_laws)
+pub ruleset ones_laws = (ones_start, one_on, each_room, each_end, next_small)
 
-pub ruleset all_laws = (all_in_lem, all_out)
-
-pub ruleset layer_laws = (left_start, each_on, each_end, set_laws, far_laws)
-
--- ---- the parts on all paths
-
-module _ (sheet : List ℕ) (d layer : ℕ) where
-  pub layers_step : d < 8 → layers_in sheet (8 - d) layer ≡ members layer ++ layers_in sheet (8 - (d + 1)) (under_in sheet layer)
-  unfolding layers_in
-  layers_step h = rw (let e : 8 - d ≡ suc (8 - (d + 1)) = omega arith in e)
-
-  pub layers_none : 8 ≤ d → layers_in sheet (8 - d) layer ≡ []
-  unfolding layers_in
-  layers_none h = rw (let e : 8 - d ≡ 0 = omega arith in e)
-
-module _ (f : ℕ → List ℕ) (sheet : List ℕ) where
-  pub layers_start : (first : ℕ) (out : List ℕ) (at : ℕ) → first ≡ with_path 0 0
-      → Left (each_of f (layers_in sheet (8 - 0) first)) out at (each_of f (order_in sheet)) out at
-  unfolding order_in
-  layers_start first out at e = rw e (left_start (each_of f (order_in sheet)) out at)
-
-  module _ (d layer : ℕ) (out : List ℕ) (at : ℕ) (all out₀ : List ℕ) (at₀ : ℕ)
-      (inv : Left (each_of f (layers_in sheet (8 - d) layer)) out at all out₀ at₀) where
-    pub layers_on : (after : List ℕ) (place next : ℕ) → d < 8 → next ≡ under_in sheet layer → Emitted (each_of f (members layer)) out at after place
-        → Left (each_of f (layers_in sheet (8 - (d + 1)) next)) after place all out₀ at₀
-    layers_on after place next h e m =
-        left_on (each_of f (layers_in sheet (8 - d) layer)) out at all out₀ at₀ inv (each_of f (members layer))
-        (each_of f (layers_in sheet (8 - (d + 1)) next)) after place
-        (ap (each_of f) (layers_step sheet d layer h) ∙ each_append f (members layer) (layers_in sheet (8 - (d + 1)) (under_in sheet layer)) ∙ rw e refl) m
-
-    pub layers_end : 8 ≤ d → Emitted all out₀ at₀ out at
-    unfolding each_of
-    layers_end h = left_end (each_of f (layers_in sheet (8 - d) layer)) out at all out₀ at₀ inv (ap (each_of f) (layers_none sheet d layer h))
-
-pub ruleset layers_laws = (layers_start, layers_on, layers_end)
+pub ruleset whole_laws = (whole_there, whole_absent)
 
 -- ---- the document
 
-pub head_emitted : (parts at : ℕ) (ns out one two : List ℕ) (next last : ℕ) → Emitted (parts ∷ []) out at one next → Emitted ns one next two last
-    → Emitted (parts ∷ ns) out at two last
-head_emitted parts at ns out one two next last m n = emitted_both (parts ∷ ns) (parts ∷ []) ns at refl out one next m two last n
+pub order_room : (n : ℕ) (sheet xs : List ℕ) (most : ℕ) → xs ≡ order_in sheet → n * 512 ≤ most → room n xs ≤ most
+unfolding room
+order_room n sheet xs most is h =
+    omega (arith, mul-le-mul_left n (order_few sheet), ap (λ (l : List ℕ). n * length l) is)
+
+pub all_start : (f : ℕ → List ℕ) (n : ℕ) (sheet xs : List ℕ) (most : ℕ) (e : Emitter) → xs ≡ order_in sheet → n * 512 ≤ most
+    → Left (each_of f xs) (room n xs) e (each_of f (order_in sheet)) most e
+all_start f n sheet xs most e is h =
+    subst (λ (l : List ℕ). Left (each_of f xs) (room n xs) e (each_of f l) most e) is
+    (left_start (each_of f xs) (room n xs) most e (order_room n sheet xs most is h))
+
+pub document_emitted : (sheet plan : List ℕ) (parts : ℕ) (out : List ℕ) (e one last : Emitter) (after : List ℕ) (size : ℕ) → Emits (parts ∷ []) 2 e one
+    → Emits (each_of (parts_numbers sheet plan) (order_in sheet)) 277022720 one last → e.out.now ≡ out → e.at ≡ 0 → after ≡ last.out.now → size ≡ last.at
+    → Emitted (parts ∷ each_of (parts_numbers sheet plan) (order_in sheet)) out 0 after size
+document_emitted sheet plan parts out e one last after size m n here none there sized =
+    let numbers : List ℕ = each_of (parts_numbers sheet plan) (order_in sheet) in
+    rw (← here, ← none, there, sized)
+    (emits_both (parts ∷ numbers) (parts ∷ []) numbers 277022722 2 277022720 e one last m n refl (omega arith)).emitted
 
 -- its bytes are counted first, and stored where they fit
 module _ (ns none mid : List ℕ) (size : ℕ) (m : Emitted ns none 0 mid size) where

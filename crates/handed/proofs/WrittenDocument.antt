@@ -10,8 +10,7 @@ use lib.ListN.{length, get_or, length-append, length-map}
 use Rattle.files.specs.Number.{limit, bytes_of_all}
 use Rattle.files.specs.Sets.{bit, Has, hasb, with_path, union, common, size, members}
 use Rattle.files.specs.Table.{Rule}
-use Rattle.files.specs.Writing.{wrapped, put, Puts}
-use Rattle.files.specs.declared.write.Written.{Written}
+use Rattle.files.specs.Writing.{Written, wrapped, put, Puts}
 use Rattle.files.proofs.SetBits.{
   same_sets,
   hasb_true,

@@ -3,6 +3,8 @@
 
 pub mod document;
 mod emit;
+mod emitter;
 mod goals;
 mod numbering;
+mod order;
 mod plan;

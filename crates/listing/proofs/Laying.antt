@@ -1,5 +1,5 @@
 -- The loop that lays out numbers: what is laid out, and what remains from here, is the whole.
-use Prim.Native.Nat.{ℕ, zero, suc, ◌+◌, ◌-◌, ◌%◌, ◌^◌, ◌<◌, ◌≤◌}
+use Prim.Native.Nat.{ℕ, zero, suc, ◌+◌, ◌-◌, ◌^◌, ◌<◌, ◌≤◌}
 use mathlib.Core.Path.{◌≡◌, refl, sym, ap, ap₂, subst, ◌∙◌}
 use mathlib.Core.Bool.{Bool, true, false}
 use mathlib.Core.List.{List, [], ◌∷◌, ◌++◌, append_assoc, append-nil}
@@ -7,14 +7,14 @@ use native.Mathlib.Omega.{arith}
 use lib.ListN.{length, drop, length-append, length-drop}
 use lib.Seq.{sets}
 use lib.Dec.{eqb, leb}
-use borrow.Author.Tests.{eq-eqb, ne_eqb, le-leb, lt-leb}
-use Rattle.files.specs.declared.number.Number.{Number}
-use Rattle.files.specs.declared.number.Number.TheVariants.{Is, Refused}
-use Rattle.files.specs.Number.{limit, number_in}
+use borrow.Author.Tests.{le-leb, lt-leb}
+use Rattle.files.specs.Number.{Begun, Is, Refused, limit, number_in}
 use Rattle.files.proofs.Numbers.{number_bounds}
 use Rattle.listing.specs.declared.lay.Stage.{Stage}
 use Rattle.listing.specs.declared.lay.Stage.TheVariants.{Count, Path, Children, Child, First, More}
 use Rattle.listing.specs.declared.lay.Place.{Place}
+use Rattle.listing.specs.declared.block.Block.{Block}
+use Rattle.listing.specs.Block.{Writes}
 use Rattle.listing.specs.Text.{digits, spaced, feed, Stored}
 use Rattle.listing.specs.Lay.{
   refused_word,
@@ -28,64 +28,8 @@ use Rattle.listing.specs.Lay.{
   lays,
   LaysRefusal,
 }
-use Rattle.listing.proofs.Puts.{stored_length, stored_both}
-use Rattle.listing.proofs.Pieces.{refused_stored, piece_few}
-
-pub next_part_is : (next part : ℕ) → ◌≡◌ {A = Place} (record { at = next; stage = Path; part = part % 65536 + 1; left = 0 }) (next_part next part)
-unfolding next_part
-next_part_is next part = refl
-
--- the place after a number, stage by stage
-module _ (stage : Stage) (next part left x : ℕ) where
-  pub after_count_lem : stage ≡ Count → ◌≡◌ {A = Place} (record { at = next; stage = Path; part = 0; left = 0 }) (place_after stage next part left x)
-  unfolding place_after
-  after_count_lem e = rw e
-
-  pub after_path_lem : stage ≡ Path → ◌≡◌ {A = Place} (record { at = next; stage = Children; part = part; left = 0 }) (place_after stage next part left x)
-  unfolding place_after
-  after_path_lem e = rw e
-
-  pub after_children : (r : Place) → r ≡ place_after Children next part 0 x → stage ≡ Children → r ≡ place_after stage next part left x
-  unfolding place_after
-  after_children r f e = rw e f
-
-  pub after_child : (r : Place) → r ≡ place_after Child next part left 0 → stage ≡ Child → r ≡ place_after stage next part left x
-  unfolding place_after
-  after_child r f e = rw e f
-
-  pub after_first : stage ≡ First → ◌≡◌ {A = Place} (record { at = next; stage = More; part = 0; left = 0 }) (place_after stage next part left x)
-  unfolding place_after
-  after_first e = rw e
-
-  pub after_more : stage ≡ More → ◌≡◌ {A = Place} (record { at = next; stage = More; part = 0; left = 0 }) (place_after stage next part left x)
-  unfolding place_after
-  after_more e = rw e
-
-pub ruleset after_laws = (after_count_lem, after_path_lem, after_children, after_child, after_first, after_more)
-
--- the place after a part's child count x
-module _ (next part x : ℕ) where
-  pub count_none : (r : Place) → x ≡ 0 → r ≡ next_part next part → r ≡ place_after Children next part 0 x
-  unfolding place_after
-  count_none r f g = rw (eq-eqb x 0 f) g
-
-  pub count_some : (x ≡ 0 → ⊥) → ◌≡◌ {A = Place} (record { at = next; stage = Child; part = part; left = x }) (place_after Children next part 0 x)
-  unfolding place_after
-  count_some f = rw (ne_eqb x 0 f)
-
-pub ruleset count_laws = (count_none, count_some)
-
--- the place after a child
-module _ (next part left : ℕ) where
-  pub child_last : (r : Place) → left ≤ 1 → r ≡ next_part next part → r ≡ place_after Child next part left 0
-  unfolding place_after
-  child_last r f g = rw (le-leb left 1 f) g
-
-  pub child_more : 1 < left → ◌≡◌ {A = Place} (record { at = next; stage = Child; part = part; left = left - 1 }) (place_after Child next part left 0)
-  unfolding place_after
-  child_more f = rw (lt-leb left 1 f)
-
-pub ruleset child_laws = (child_last, child_more)
+use Rattle.listing.proofs.Blocks.{stored_length, stored_both}
+use Rattle.listing.proofs.Pieces.{piece_few}
 
 -- the next number stands after the one that was read
 pub after_at_lem : (stage : Stage) (next part left x : ℕ) → (place_after stage next part left x).at ≡ next
@@ -157,10 +101,10 @@ module _ (s : List ℕ) (p₀ : Place) (out₀ out : List ℕ) (p : Place) (n : 
   pub lay_full : length out - n < 48 → Stored (lays (length s) s (length out₀) p₀) out₀ 0 out n
   lay_full h = laid (no_more inv.most (omega (arith, inv.room)))
 
-  pub lay_end : {k : ℕ} (r : Number) → r ≡ number_in (drop p.at s) → r ≡ Refused k → Stored (lays (length s) s (length out₀) p₀) out₀ 0 out n
+  pub lay_end : {k : ℕ} (r : Begun) → r ≡ number_in (drop p.at s) → r ≡ Refused k → Stored (lays (length s) s (length out₀) p₀) out₀ 0 out n
   lay_end {k} r e f = laid (no_number inv.most k (sym e ∙ f))
 
-  module _ (more : 48 ≤ length out - n) {x size : ℕ} (r : Number) (e : r ≡ number_in (drop p.at s)) (f : r ≡ Is x size) where
+  module _ (more : 48 ≤ length out - n) {x size : ℕ} (r : Begun) (e : r ≡ number_in (drop p.at s)) (f : r ≡ Is x size) where
     is : number_in (drop p.at s) ≡ Is x size
     is = sym e ∙ f
 
@@ -229,7 +173,9 @@ module _ (s : List ℕ) (p₀ : Place) (out₀ out : List ℕ) (p : Place) (n : 
                 ∙ inv.rest;
           }
 
-pub ruleset lay_laws = (lay_start, lay_room, lay_full, lay_end, lay_fits, lay_wide, lay_block, lay_less, lay_more)
+-- what is laid out in a block that is filled from its start
+pub laid_block : (text out out₀ mid after : List ℕ) (n m : ℕ) → out₀ ≡ out → Stored text out₀ 0 mid n → after ≡ mid → m ≡ n → Stored text out 0 after m
+laid_block text out out₀ mid after n m o st e f = record { next = f ∙ st.next; bytes = e ∙ st.bytes ∙ ap (λ (l : List ℕ). sets l 0 text) o }
 
 -- ---- the line of a refusal
 
@@ -243,21 +189,23 @@ module _ (k at : ℕ) (out : List ℕ) where
   pub refusal_short : length out < 64 → LaysRefusal k at out out 0
   refusal_short h = record { fits = λ g. absurd (omega arith); short = λ g. (refl, refl) }
 
-  module _ (mid mid' : List ℕ) (next next' : ℕ) (word : Stored (114 ∷ 101 ∷ 102 ∷ 117 ∷ 115 ∷ 101 ∷ 100 ∷ []) out 0 mid next)
-      (number : Stored (spaced (k ∷ [])) mid next mid' next') (h : 64 ≤ length out) where
-    pub refusal_laid : (after : List ℕ) (r : ℕ) → Stored (spaced (at ∷ []) ++ feed true) mid' next' after r → LaysRefusal k at out after r
-    unfolding refused_text
-    refusal_laid after r place =
-        let both : Stored (spaced (k ∷ []) ++ (spaced (at ∷ []) ++ feed true)) mid next after r =
-        stored_both (spaced (k ∷ [])) (spaced (at ∷ []) ++ feed true) mid mid' after next next' r number place in
-        let same : spaced (k ∷ []) ++ (spaced (at ∷ []) ++ feed true) ≡ spaced (k ∷ at ∷ []) ++ feed true =
-        sym (append_assoc (spaced (k ∷ [])) (spaced (at ∷ [])) (feed true)) ∙ ap (λ (l : List ℕ). l ++ feed true) (sym (spaced_append (k ∷ []) (at ∷ []))) in
-        record {
-          fits = λ g. line (refused_stored out mid 0 next (spaced (k ∷ at ∷ []) ++ feed true) after r (subst (λ (l : List ℕ). Stored l mid next after r) same both) word);
-          short = λ g. absurd (omega arith);
-        }
-      where
-        line : Stored (refused_word ++ (spaced (k ∷ at ∷ []) ++ feed true)) out 0 after r → Stored (refused_text k at) out 0 after r
-        line st = st
+  pub refusal_laid : (after : List ℕ) (r : ℕ) → 64 ≤ length out → Stored (refused_word ++ (spaced (k ∷ []) ++ (spaced (at ∷ []) ++ feed true))) out 0 after r
+      → LaysRefusal k at out after r
+  unfolding refused_text
+  refusal_laid after r h st =
+      let same : spaced (k ∷ []) ++ (spaced (at ∷ []) ++ feed true) ≡ spaced (k ∷ at ∷ []) ++ feed true =
+      sym (append_assoc (spaced (k ∷ [])) (spaced (at ∷ [])) (feed true)) ∙ ap (λ (l : List ℕ). l ++ feed true) (sym (spaced_append (k ∷ []) (at ∷ []))) in
+      record {
+        fits = λ g. subst (λ (l : List ℕ). Stored (refused_word ++ l) out 0 after r) same st;
+        short = λ g. absurd (omega arith);
+      }
 
-pub ruleset refusal_laws = (refusal_short, refusal_laid)
+  -- the same of a block that was filled from its start
+  pub refusal_written : (start new : Block) (after : List ℕ) (r : ℕ) → 64 ≤ length out → start.out.now ≡ out → start.filled ≡ 0
+      → Writes (refused_word ++ (spaced (k ∷ []) ++ (spaced (at ∷ []) ++ feed true))) start new → after ≡ new.out.now → r ≡ new.filled → LaysRefusal k at out after r
+  refusal_written start new after r h o z w e f =
+      refusal_laid after r h
+      (record {
+        next = f ∙ w.stored.next ∙ ap (λ (n : ℕ). n + length (refused_word ++ (spaced (k ∷ []) ++ (spaced (at ∷ []) ++ feed true)))) z;
+        bytes = e ∙ w.stored.bytes ∙ ap₂ (λ (l : List ℕ) (n : ℕ). sets l n (refused_word ++ (spaced (k ∷ []) ++ (spaced (at ∷ []) ++ feed true)))) o z;
+      })

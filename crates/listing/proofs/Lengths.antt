@@ -15,8 +15,7 @@ use Rattle.files.proofs.FileSizes.{bytes_in, bytes_more, bytes_append, number_sh
 use Rattle.documents.specs.PartList.{Entry, entry_path, part_numbers, document_numbers}
 use Rattle.listing.specs.Text.{digits_before, digits, spaced, feed}
 use Rattle.listing.specs.Lay.{consistent, inconsistent, refused_word, refused_text, inconsistent_text, parts_text, consistent_text}
-use Rattle.listing.proofs.Digits.{before_none}
-use Rattle.listing.proofs.Puts.{digits_few}
+use Rattle.listing.proofs.Blocks.{before_zero, digits_few}
 
 -- every number is one of a file
 abbrev pub Small : List ℕ → Type 0
@@ -29,7 +28,7 @@ tenth k n h = (div-lt_iff_lt-mul (let z : 0 < 10 = omega arith in z)).1 (rw pow-
 
 before_few : (k most n : ℕ) (text : List ℕ) → n < 10 ^ k → length (digits_before most n text) ≤ k + length text
 unfolding digits_before
-before_few zero most n text h = omega (arith, ap length (before_none most n text (omega arith)))
+before_few zero most n text h = omega (arith, ap length (before_zero most n text (omega arith)))
 before_few (suc k) zero n text h = omega arith
 before_few (suc k) (suc most) n text h = by (eqb n 0) refl (before_few k most (n / 10) ((48 + n % 10) ∷ text) (tenth k n h))
   where

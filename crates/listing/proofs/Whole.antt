@@ -9,8 +9,7 @@ use lib.ListN.{length, drop, length-append}
 use lib.Seq.{drop_at}
 use lib.Dec.{eqb, leb, ltb}
 use borrow.Author.Tests.{le-leb, lt-leb}
-use Rattle.files.specs.declared.number.Number.TheVariants.{Is, Refused}
-use Rattle.files.specs.Number.{number_in, bytes_of, bytes_of_all, before}
+use Rattle.files.specs.Number.{Is, Refused, number_in, bytes_of, bytes_of_all, before}
 use Rattle.files.proofs.Numbers.{read_back, in_cut}
 use Rattle.documents.specs.PartList.{Entry, document_numbers, entry_path}
 use Rattle.listing.specs.declared.lay.Stage.{Stage}

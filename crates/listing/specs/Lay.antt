@@ -1,8 +1,6 @@
 -- The text of a document and of evidence, number by number, and how much of it a lent block takes.
 use Rattle.std.specs.Prelude.{ℕ, zero, suc, ◌+◌, ◌-◌, ◌%◌, ◌≤◌, ◌<◌, ◌≡◌, Bool, true, false, cond, List, [], ◌∷◌, ◌++◌, length, drop, eqb, leb}
-use Rattle.files.specs.declared.number.Number.{Number}
-use Rattle.files.specs.declared.number.Number.TheVariants.{Is, Refused}
-use Rattle.files.specs.Number.{number_in}
+use Rattle.files.specs.Number.{Begun, Is, Refused, number_in}
 use Rattle.documents.specs.PartList.{Entry}
 use Rattle.listing.specs.declared.lay.Place.{Place}
 use Rattle.listing.specs.declared.lay.Stage.{Stage}
@@ -87,7 +85,7 @@ unfoldable pub after_at : Place → ℕ → ℕ → Place
 after_at p x size = place_after p.stage (p.at + size) p.part p.left x
 
 -- what stands at a place: a number is gone on with, anything else ends the text
-unfoldable pub lays_number : (ℕ → ℕ → List ℕ) → Number → List ℕ
+unfoldable pub lays_number : (ℕ → ℕ → List ℕ) → Begun → List ℕ
 lays_number go (Is x size) = go x size
 lays_number go (Refused k) = []
 

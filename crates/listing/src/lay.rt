@@ -1,13 +1,21 @@
 // Numbers of a document or of evidence laid out as text, as much of it as a lent block takes, and the line of a refusal.
-ghost use Rattle.std.specs.Prelude.{◌+◌, ◌≤◌, ◌<◌, ◌≡◌, true, [], ◌∷◌, ◌++◌, length, drop};
-ghost use Rattle.listing.specs.Text.{digits, spaced, feed, Stored};
-ghost use Rattle.listing.specs.Lay.{consistent, inconsistent, piece_text, next_part, place_after, laid_text, LaysRefusal};
+ghost use Rattle.std.specs.Prelude.{◌+◌, ◌≤◌, ◌≡◌, length};
+ghost use Rattle.listing.specs.Text.{Stored};
+ghost use Rattle.listing.specs.Block.{Writes};
+ghost use Rattle.listing.specs.Lay.{piece_text, next_part, place_after, laid_text, LaysRefusal};
 
-use files::number::{Number, read_number};
+use crate::block::Block;
+use files::number::read_number;
+
+// No number's text takes more bytes.
+const PIECE: usize = 48;
+
+// Nor does the line of a refusal.
+const REFUSAL: usize = 64;
 
 // What the next number is: the part count, a part's path, its child count, a child; or the first number of evidence, or a
 // further one.
-#[derive(Clone, Copy)]
+#[derive(Clone, Copy, Debug, PartialEq, Eq)]
 pub enum Stage {
     Count,
     Path,
@@ -19,7 +27,7 @@ pub enum Stage {
 
 // Where the text goes on: the place of the next number among the bytes and what it is, the number of its part, and how many
 // children are left.
-#[derive(Clone, Copy)]
+#[derive(Clone, Copy, Debug, PartialEq, Eq)]
 struct Place {
     at: usize,
     stage: Stage,
@@ -27,206 +35,83 @@ struct Place {
     left: u64,
 }
 
-// The digits of a number stand in the last slots, from `from` on.
-#[derive(Clone, Copy)]
-struct Digits {
-    from: usize,
-    text: [u8; 20],
-}
-
-fn digits_of(n: u64) -> Digits
-    ensures { (result.from ≤ 20) × (length result.text ≡ 20) × (drop result.from result.text ≡ digits n) }
-{
-    let mut text = [0u8; 20];
-    let mut from = 19usize;
-    let mut left = n;
-    text[19] = 48 + (left % 10) as u8;
-    left /= 10;
-    while 0 < left {
-        from -= 1;
-        text[from] = 48 + (left % 10) as u8;
-        left /= 10;
+impl Place {
+    // The place of the first number, which is of this stage.
+    fn first(stage: Stage) -> Place
+        ensures { result ≡ record { at = 0; stage = stage; part = 0; left = 0 } }
+    {
+        Place {
+            at: 0,
+            stage,
+            part: 0,
+            left: 0,
+        }
     }
-    Digits { from, text }
-}
 
-// Bytes stored from `at` on, where there is room for them; the place after them.
-fn put(text: &[u8], out: &mut [u8], at: usize) -> usize
-    requires { at + length text.now ≤ length out.old }
-    ensures { Stored text.now out.old at out.new result }
-{
-    let mut i = 0usize;
-    while i < text.len() {
-        out[at + i] = text[i];
-        i += 1;
+    // The text of the number x here; `last`: no number follows it.
+    fn put(self, x: u64, last: bool, block: &mut Block)
+        requires { block.old.filled + 48 ≤ length block.old.out.now }
+        ensures { Writes (piece_text self.stage self.part self.left last x) block.old block.new }
+    {
+        match self.stage {
+            Stage::Count => {
+                block.put(b"consistent");
+                block.put_last(x, true);
+            }
+            Stage::Path => {
+                block.put_number(self.part);
+                block.put_spaced(x);
+            }
+            Stage::Children => block.put_feed(x == 0),
+            Stage::Child => block.put_last(x, self.left <= 1),
+            Stage::First => {
+                block.put(b"inconsistent");
+                block.put_last(x, last);
+            }
+            Stage::More => block.put_last(x, last),
+        }
     }
-    at + i
-}
 
-// A number's digits stored from `at` on; the place after them.
-fn put_digits(n: u64, out: &mut [u8], at: usize) -> usize
-    requires { at + 20 ≤ length out.old }
-    ensures { Stored (digits n) out.old at out.new result }
-{
-    let d = digits_of(n);
-    let from = d.from;
-    let text = d.text;
-    put(&text[from..], out, at)
-}
-
-// A space and a number's digits stored from `at` on; the place after them.
-fn put_spaced(n: u64, out: &mut [u8], at: usize) -> usize
-    requires { at + 21 ≤ length out.old }
-    ensures { Stored (spaced (n ∷ [])) out.old at out.new result }
-{
-    out[at] = 32;
-    put_digits(n, out, at + 1)
-}
-
-// A line feed stored at `at` where it is asked for; the place after it.
-fn put_feed(wanted: bool, out: &mut [u8], at: usize) -> usize
-    requires { at + 1 ≤ length out.old }
-    ensures { Stored (feed wanted) out.old at out.new result }
-{
-    if wanted {
-        out[at] = 10;
-        return at + 1;
+    // The place at `next` of the same part, with what is to come.
+    fn on(self, next: usize, stage: Stage, left: u64) -> Place
+        ensures { result ≡ record { at = next; stage = stage; part = self.part; left = left } }
+    {
+        Place {
+            at: next,
+            stage,
+            part: self.part,
+            left,
+        }
     }
-    at
-}
 
-// A number after a space, and a line feed where it is asked for.
-fn put_last(wanted: bool, x: u64, out: &mut [u8], at: usize) -> usize
-    requires { at + 22 ≤ length out.old }
-    ensures { Stored (spaced (x ∷ []) ++ feed wanted) out.old at out.new result }
-{
-    let next = put_spaced(x, out, at);
-    put_feed(wanted, out, next)
-}
-
-// The line of the part count.
-fn put_count(x: u64, out: &mut [u8], at: usize) -> usize
-    requires { at + 48 ≤ length out.old }
-    ensures { Stored (consistent ++ (spaced (x ∷ []) ++ feed true)) out.old at out.new result }
-{
-    let next = put(b"consistent", out, at);
-    put_last(true, x, out, next)
-}
-
-// The start of a part's line: its number and its path.
-fn put_path(part: u64, x: u64, out: &mut [u8], at: usize) -> usize
-    requires { at + 48 ≤ length out.old }
-    ensures { Stored (digits part ++ spaced (x ∷ [])) out.old at out.new result }
-{
-    let next = put_digits(part, out, at);
-    put_spaced(x, out, next)
-}
-
-// The start of the line of evidence.
-fn put_first(last: bool, x: u64, out: &mut [u8], at: usize) -> usize
-    requires { at + 48 ≤ length out.old }
-    ensures { Stored (inconsistent ++ (spaced (x ∷ []) ++ feed last)) out.old at out.new result }
-{
-    let next = put(b"inconsistent", out, at);
-    put_last(last, x, out, next)
-}
-
-// The text of a number by what it is; `last`: no number follows it.
-fn put_piece(
-    stage: Stage,
-    part: u64,
-    left: u64,
-    last: bool,
-    x: u64,
-    out: &mut [u8],
-    at: usize,
-) -> usize
-    requires { at + 48 ≤ length out.old }
-    ensures { Stored (piece_text stage part left last x) out.old at out.new result }
-{
-    match stage {
-        Stage::Count => put_count(x, out, at),
-        Stage::Path => put_path(part, x, out, at),
-        Stage::Children => put_feed(x == 0, out, at),
-        Stage::Child => put_last(left <= 1, x, out, at),
-        Stage::First => put_first(last, x, out, at),
-        Stage::More => put_last(last, x, out, at),
-    }
-}
-
-// The place after a part's line.
-fn next_part(next: usize, part: u64) -> Place
-    ensures { result ≡ next_part next part }
-{
-    Place {
-        at: next,
-        stage: Stage::Path,
-        part: part % 65536 + 1,
-        left: 0,
-    }
-}
-
-// The place after a part's child count x.
-fn after_count(next: usize, part: u64, x: u64) -> Place
-    ensures { result ≡ place_after Stage.Children next part 0 x }
-{
-    if x == 0 {
-        return next_part(next, part);
-    }
-    Place {
-        at: next,
-        stage: Stage::Child,
-        part,
-        left: x,
-    }
-}
-
-// The place after a child, the first of `left` that were left.
-fn after_child(next: usize, part: u64, left: u64) -> Place
-    ensures { result ≡ place_after Stage.Child next part left 0 }
-{
-    if left <= 1 {
-        return next_part(next, part);
-    }
-    Place {
-        at: next,
-        stage: Stage::Child,
-        part,
-        left: left - 1,
-    }
-}
-
-// The place after a number x, by what it is; the next number stands at `next`.
-fn place_after(stage: Stage, next: usize, part: u64, left: u64, x: u64) -> Place
-    ensures { result ≡ place_after stage next part left x }
-{
-    match stage {
-        Stage::Count => Place {
+    // The place after a part's line.
+    #[tactic(auto, unfolding(crate::specs::Lay::next_part))]
+    fn next_part(self, next: usize) -> Place
+        ensures { result ≡ next_part next self.part }
+    {
+        Place {
             at: next,
             stage: Stage::Path,
-            part: 0,
+            part: self.part % 65536 + 1,
             left: 0,
-        },
-        Stage::Path => Place {
-            at: next,
-            stage: Stage::Children,
-            part,
-            left: 0,
-        },
-        Stage::Children => after_count(next, part, x),
-        Stage::Child => after_child(next, part, left),
-        Stage::First => Place {
-            at: next,
-            stage: Stage::More,
-            part: 0,
-            left: 0,
-        },
-        Stage::More => Place {
-            at: next,
-            stage: Stage::More,
-            part: 0,
-            left: 0,
-        },
+        }
+    }
+
+    // The place after the number x; the next number stands at `next`.
+    #[tactic(auto, unfolding(crate::specs::Lay::place_after))]
+    fn after(self, x: u64, next: usize) -> Place
+        ensures { result ≡ place_after self.stage next self.part self.left x }
+    {
+        let start = Place::first(Stage::Count);
+        match self.stage {
+            Stage::Count => start.on(next, Stage::Path, 0),
+            Stage::Path => self.on(next, Stage::Children, 0),
+            Stage::Children if x == 0 => self.next_part(next),
+            Stage::Children => self.on(next, Stage::Child, x),
+            Stage::Child if self.left <= 1 => self.next_part(next),
+            Stage::Child => self.on(next, Stage::Child, self.left - 1),
+            Stage::First | Stage::More => start.on(next, Stage::More, 0),
+        }
     }
 }
 
@@ -235,46 +120,33 @@ fn place_after(stage: Stage, next: usize, part: u64, left: u64, x: u64) -> Place
 pub fn lay(bytes: &[u8], stage: Stage, out: &mut [u8]) -> usize
     ensures { Stored (laid_text bytes.now stage out.old) out.old 0 out.new result }
 {
-    let mut place = Place {
-        at: 0,
-        stage,
-        part: 0,
-        left: 0,
-    };
-    let mut length = 0usize;
-    while 48 <= out.len() - length {
-        let at = place.at;
-        match read_number(bytes, at) {
-            Number::Refused(_) => {
-                return length;
+    let mut block = Block::new(out);
+    let mut place = Place::first(stage);
+    while PIECE <= block.room() {
+        match read_number(bytes, place.at) {
+            Ok(number) => {
+                let x = u64::from(number.value);
+                let next = place.at + number.width;
+                place.put(x, bytes.len() <= next, &mut block);
+                place = place.after(x, next);
             }
-            Number::Is(n, size) => {
-                let stage = place.stage;
-                let next = at + size;
-                length = put_piece(
-                    stage,
-                    place.part,
-                    place.left,
-                    bytes.len() <= next,
-                    n as u64,
-                    out,
-                    length,
-                );
-                place = place_after(stage, next, place.part, place.left, n as u64);
-            }
+            Err(_) => break,
         }
     }
-    length
+    block.filled()
 }
 
-// The line of a refusal laid out at the start of the block, and its length; nothing where there is less room than 64 bytes.
-pub fn lay_refusal(number: u64, place: u64, out: &mut [u8]) -> usize
-    ensures { LaysRefusal number place out.old out.new result }
+// The line of a refusal laid out at the start of the block, and its length; nothing where there is less room than 64 bytes. By numbers: its
+// contract is of any two.
+pub fn lay_refusal(number: u64, offset: u64, out: &mut [u8]) -> usize
+    ensures { LaysRefusal number offset out.old out.new result }
 {
-    if out.len() < 64 {
+    if out.len() < REFUSAL {
         return 0;
     }
-    let next = put(b"refused", out, 0);
-    let after = put_spaced(number, out, next);
-    put_last(true, place, out, after)
+    let mut block = Block::new(out);
+    block.put(b"refused");
+    block.put_spaced(number);
+    block.put_last(offset, true);
+    block.filled()
 }

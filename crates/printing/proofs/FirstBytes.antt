@@ -4,7 +4,7 @@ use mathlib.Core.Path.{◌≡◌, ap}
 use mathlib.Core.List.{List}
 use native.Mathlib.Omega.{arith}
 use lib.ListN.{length, take}
-use Rattle.files.specs.declared.read.Reading.{Reading}
+use Rattle.files.specs.Reading.{Reading}
 use Rattle.files.proofs.FirstBytes.{first_decide}
 use Rattle.printing.specs.Printing.{answer_text, printed_text}
 

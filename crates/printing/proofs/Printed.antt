@@ -4,8 +4,8 @@ use mathlib.Core.Path.{◌≡◌, refl, sym, ap, subst, ◌∙◌}
 use mathlib.Core.List.{List}
 use native.Mathlib.Omega.{arith}
 use lib.ListN.{length}
-use Rattle.files.specs.declared.read.Answer.{Answer}
-use Rattle.files.specs.declared.read.Reading.{Reading}
+use Rattle.files.specs.Reading.{Answer}
+use Rattle.files.specs.Reading.{Reading}
 use Rattle.files.specs.declared.rules.Rules.{Rules}
 use Rattle.files.specs.Reading.{ReadRules}
 use Rattle.files.specs.Rules.{ValidTable}
@@ -13,7 +13,7 @@ use Rattle.files.proofs.TableStructs.{table_valid}
 use Rattle.listing.specs.Text.{Stored}
 use Rattle.listing.specs.Lay.{refused_text, LaysRefusal}
 use Rattle.listing.proofs.Lengths.{refused_length}
-use Rattle.listing.proofs.Puts.{stored_length}
+use Rattle.listing.proofs.Blocks.{stored_length}
 use Rattle.printing.specs.Printing.{TEXT, rules_text, answer_text, printed_text, SaysOf, Says, refuses, accepts, RulesToPrint, PrintsRules, Prints}
 
 -- there is less room than a text may take

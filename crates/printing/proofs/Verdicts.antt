@@ -31,7 +31,7 @@ use Rattle.listing.specs.Text.{Stored}
 use Rattle.listing.specs.Lay.{inconsistent_text, consistent_text, laid_text}
 use Rattle.listing.proofs.Lengths.{Small, document_length, evidence_length}
 use Rattle.listing.proofs.Whole.{whole_document, whole_evidence}
-use Rattle.reasoning.specs.declared.consistency.Verdict.{Verdict}
+use Rattle.reasoning.specs.Verdict.{Verdict}
 use Rattle.reasoning.specs.Calls.{rule_list_of, asked_of, document_bytes, inconsistent_bytes, consistency_answer, HandsBack}
 use Rattle.reasoning.proofs.ConsistencyJoins.{consistency_agrees, consistency_conflicts}
 use Rattle.reasoning.proofs.Placed.{Placed, fills, too_long, placed_at, fills_take}

@@ -1,6 +1,6 @@
 -- The whole text that the verdict program prints for the bytes of a rule file: which bytes it is, and what it says.
 use Rattle.std.specs.Prelude.{ℕ, ◌+◌, ◌*◌, ◌≤◌, ◌<◌, ◌≡◌, List, [], length, take, replicate}
-use Rattle.files.specs.declared.read.Answer.{Answer}
+use Rattle.files.specs.Reading.{Answer}
 use Rattle.files.specs.declared.rules.Rules.{Rules}
 use Rattle.files.specs.Format.{Outcome, got, refused, run_all}
 use Rattle.files.specs.Meets.{Meets}
@@ -15,7 +15,7 @@ use Rattle.theory.specs.Evidence.{inconsistent_numbers, ShowsInconsistent}
 use Rattle.theory.specs.Follows.{Witnesses, Consistent}
 use Rattle.listing.specs.Text.{Stored}
 use Rattle.listing.specs.Lay.{refused_text, inconsistent_text, consistent_text}
-use Rattle.reasoning.specs.declared.consistency.Verdict.{Verdict}
+use Rattle.reasoning.specs.Verdict.{Verdict}
 use Rattle.reasoning.specs.Calls.{rule_list_of, asked_of, consistency_answer, DecidesConsistency}
 
 -- the room for a document

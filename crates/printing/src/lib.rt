@@ -1,9 +1,13 @@
 // The whole text that the verdict program prints for the bytes of a rule file.
 #![tactic(auto)]
 
+ghost use Rattle.files.specs.Refusals.{condition_number};
+ghost use Rattle.listing.specs.Lay.{LaysRefusal};
+ghost use Rattle.reasoning.specs.Verdict.{verdict};
 ghost use Rattle.printing.specs.Printing.{Decided, RulesToPrint, PrintsRules, Prints};
 
-use files::read::{Answer, read_rules};
+use files::read::read_rules;
+use files::refusal::Refusal;
 use files::rules::Rules;
 use listing::lay::{Stage, lay, lay_refusal};
 use reasoning::consistency::{Verdict, consistency};
@@ -14,15 +18,31 @@ const DOCUMENT: usize = 65536;
 // No text takes more: four bytes for each of a document's, and a line.
 pub const TEXT: usize = 4 * 65536 + 64;
 
+// The line of a refusal.
+fn print_refusal(refusal: Refusal, out: &mut [u8]) -> usize
+    ensures { LaysRefusal (condition_number refusal.condition) refusal.offset out.old out.new result }
+{
+    lay_refusal(
+        u64::from(refusal.condition.number()),
+        refusal.offset as u64,
+        out,
+    )
+}
+
 // The text of a verdict, with the document or the evidence that it left.
-fn print_verdict(rules: Rules, verdict: Verdict, document: &[u8], out: &mut [u8]) -> usize
-    requires { Decided rules verdict document.now out.old }
+fn print_verdict(
+    rules: Rules,
+    decided: Result<Verdict, Refusal>,
+    document: &[u8],
+    out: &mut [u8],
+) -> usize
+    requires { Decided rules (verdict decided) document.now out.old }
     ensures { PrintsRules rules out.old result out.new }
 {
-    match verdict {
-        Verdict::Consistent(n) => lay(&document[..n], Stage::Count, out),
-        Verdict::Inconsistent(n) => lay(&document[..n], Stage::First, out),
-        Verdict::Refused(number, offset) => lay_refusal(number as u64, offset as u64, out),
+    match decided {
+        Ok(Verdict::Consistent(n)) => lay(&document[..n], Stage::Count, out),
+        Ok(Verdict::Inconsistent(n)) => lay(&document[..n], Stage::First, out),
+        Err(refusal) => print_refusal(refusal, out),
     }
 }
 
@@ -32,8 +52,8 @@ fn print_rules(rules: Rules, out: &mut [u8]) -> usize
     ensures { PrintsRules rules out.old result out.new }
 {
     let mut document = [0u8; DOCUMENT];
-    let verdict = consistency(rules, &mut document);
-    print_verdict(rules, verdict, &document, out)
+    let decided = consistency(rules, &mut document);
+    print_verdict(rules, decided, &document, out)
 }
 
 // The text laid at the start of `out`, and its length; where `out` has less room than TEXT, nothing and 0.
@@ -44,9 +64,8 @@ pub fn print(file: &[u8], out: &mut [u8]) -> usize
         return 0;
     }
     let reading = read_rules(file);
-    let answer = reading.answer;
-    match answer {
-        Answer::Refused(number, offset) => lay_refusal(number as u64, offset as u64, out),
-        Answer::Accepted => print_rules(reading.rules, out),
+    match reading.answer {
+        Ok(()) => print_rules(reading.rules, out),
+        Err(refusal) => print_refusal(refusal, out),
     }
 }

@@ -1,14 +1,13 @@
 -- Questions: from a table that passed its test to what the call promises.
-use Prim.Native.Nat.{ℕ, ◌%◌, ◌^◌, ◌<◌, ◌≤◌}
+use Prim.Native.Nat.{ℕ, ◌^◌, ◌<◌, ◌≤◌}
 use mathlib.Core.Path.{◌≡◌, refl, sym, ap, subst, ◌∙◌}
 use mathlib.Core.Bool.{Bool, true, false, not}
 use mathlib.Core.List.{List, ◌++◌, append-nil}
 use native.Mathlib.Omega.{arith}
 use native.Mathlib.Decide.{ℕ_discrete}
-use lib.Dec.{ltb}
-use borrow.Author.Tests.{lt-ltb, le-ltb, le-leb, lt-leb, eq-eqb, ne_eqb, not-true, not-false}
+use borrow.Author.Tests.{eq-eqb, ne_eqb, not-true, not-false}
 use Rattle.files.specs.declared.rules.Rules.{Rules}
-use Rattle.files.specs.declared.write.Written.{Written}
+use Rattle.files.specs.Writing.{Written}
 use Rattle.files.specs.Number.{bytes_of_all}
 use Rattle.files.specs.Rules.{parents_in, ValidTable}
 use Rattle.files.specs.Sets.{with_path}
@@ -25,16 +24,17 @@ use Rattle.theory.proofs.HandedRows.{Begins}
 use Rattle.reachable.specs.Arrays.{parent_of, rule_list}
 use Rattle.reachable.specs.Sheet.{context_in, laid}
 use Rattle.reachable.specs.Grow.{with_sets, sheet_of}
-use Rattle.evidence.specs.declared.ground.Ground.TheVariants.{None, Direct}
+use Rattle.std.specs.Prelude.{Some, None, is_some}
+use Rattle.evidence.specs.declared.ground.Ground.TheVariants.{Direct}
 use Rattle.evidence.specs.declared.ground.Both.{Both}
 use Rattle.evidence.specs.Choices.{clashing_in}
-use Rattle.evidence.specs.Grounds.{given, says_yes, InRange, direct_in, grounds_on, ground_numbers}
+use Rattle.evidence.specs.Grounds.{says_yes, InRange, direct_in, grounds_on, ground_numbers}
 use Rattle.evidence.proofs.Walking.{context_same, direct_same, direct_numbers_lem}
 use Rattle.evidence.proofs.GroundJoins.{none_range, direct_range, question_yes, question_written, question_in, question_there}
 use Rattle.handed.specs.Writer.{start_of, document_in}
 use Rattle.handed.proofs.WrittenDocument.{document_written}
 use Rattle.theory.proofs.HandedDocuments.{reachable_words}
-use Rattle.reasoning.specs.declared.question.Reply.{Reply}
+use Rattle.reasoning.specs.Reply.{Reply}
 use Rattle.reasoning.specs.declared.question.Begins.{Begins as Beginning}
 use Rattle.reasoning.specs.Calls.{askable, answer_of, AnswersQuestion}
 use Rattle.reasoning.specs.Lent.{PassedQuestion, LentQuestion, Denied, Told, counter_on, counter_numbers}
@@ -42,27 +42,6 @@ use Rattle.reasoning.proofs.CallLaws.{ask_refuses, ask_bars, ask_shows, ask_hand
 use Rattle.reasoning.proofs.Calling.{passed_sound, passed_fits, passed_laid, passed_says, passed_clash, valid_passed}
 use Rattle.reasoning.proofs.QuestionJoins.{askable_asked, counter_begins}
 use Rattle.reasoning.proofs.TableArrays.{arrays_parents, arrays_rules}
-
--- ---- whether a question can be asked
-
-module _ (t : Rules) (kind p q : ℕ) where
-  pub bars_low : kind < 1 → false ≡ askable t kind p q
-  unfolding askable
-  bars_low h = rw (lt-leb 1 kind h)
-
-  pub bars_high : 1 ≤ kind → 3 < kind → false ≡ askable t kind p q
-  unfolding askable
-  bars_high h k = rw (le-leb 1 kind h, lt-leb kind 3 k)
-
-  pub bars_first : 1 ≤ kind → kind ≤ 3 → t.paths ≤ p → false ≡ askable t kind p q
-  unfolding askable
-  bars_first h k l = rw (le-leb 1 kind h, le-leb kind 3 k, le-ltb p t.paths l)
-
-  pub asks_second : 1 ≤ kind → kind ≤ 3 → p < t.paths → ltb q t.paths ≡ askable t kind p q
-  unfolding askable
-  asks_second h k l = rw (le-leb 1 kind h, le-leb kind 3 k, lt-ltb p t.paths l)
-
-pub ruleset askable_laws = (bars_low, bars_high, bars_first, asks_second)
 
 -- ---- paths that are asked about are among the 64
 
@@ -76,16 +55,16 @@ module _ (t : Rules) (word : t.required < 2 ^ 64) (parent : List ℕ) (kind p q 
   -- ---- an implication that is direct
 
   module _ (sheet : List ℕ) (e : sheet ≡ laid (parent_of parent) (rule_list t.kind t.left t.right t.rules) t.paths) where
-    pub direct_low : InRange (Direct p q) × InRange None
+    pub direct_low : InRange (Some (Direct p q)) × InRange None
     direct_low = (direct_range p q asked_low.0 asked_low.1, none_range)
 
     pub direct_told : (b : Bool) → kind ≡ 1 → b ≡ direct_in sheet p q → b ≡ true → (out : List ℕ) (r : Reply) (after : List ℕ)
-        → Told Reply.Yes Reply.Refused (ground_numbers sheet (Direct p q) ++ ground_numbers sheet None) out r after → AnswersQuestion t kind p q out r after
+        → Told Reply.Yes Reply.Refused (ground_numbers sheet (Some (Direct p q)) ++ ground_numbers sheet None) out r after → AnswersQuestion t kind p q out r after
     unfolding ground_numbers yesb impliesb evidence_numbers implication_numbers
     direct_told b one test z out r after w =
         ask_shows t kind p q out word h.passed.passes h.can parent h.passed.lent
         (rw (yesb, eq-eqb kind 1 one, reach))
-        (ground_numbers sheet (Direct p q) ++ ground_numbers sheet None)
+        (ground_numbers sheet (Some (Direct p q)) ++ ground_numbers sheet None)
         (rw (append-nil, evidence_numbers, eq-eqb kind 1 one, implication_numbers, reach)
         (direct_numbers_lem (passed_fits t word parent h.passed) (passed_laid t word parent h.passed sheet e) p q (a_first) (a_second)))
         w.written r after w.puts w.is
@@ -156,12 +135,12 @@ module _ (t : Rules) (word : t.required < 2 ^ 64) (parent sheet : List ℕ) (kin
           (passed_says t word parent h.lent.passed sheet h.lent.laid) clash clash_is kind p q a_first a_second low high (answers ∙ z)))
           w.written r after w.puts w.is
 
-      pub settle_no : y ≡ false → (holds : Bool) → holds ≡ given b.first → Denied t parent sheet kind p q holds
+      pub settle_no : y ≡ false → (holds : Bool) → holds ≡ is_some b.first → Denied t parent sheet kind p q holds
       settle_no z holds e = record {
         asked = h;
         denies = answers ∙ z;
         there = λ k.
-            e ∙ ap (λ (v : Both). given v.first) is
+            e ∙ ap (λ (v : Both). is_some v.first) is
             ∙ question_there (passed_fits t word parent h.lent.passed) some (passed_says t word parent h.lent.passed sheet h.lent.laid)
             clash clash_is kind p q a_first a_second low high (λ d. omega arith) (λ d. omega arith);
       }
@@ -187,8 +166,6 @@ module _ (sheet : List ℕ) (kind p q : ℕ) (holds : Bool) where
     pub counter_implication : (goals : ℕ) → (kind ≡ 3 → ⊥) → goals ≡ with_path 0 p → record { goals = goals; top = p } ≡ counter_on sheet kind p q holds
     unfolding counter_on
     counter_implication goals m e = rw (counter_on, ne_eqb kind 2 n, ne_eqb kind 3 m, e)
-
-pub ruleset counter_laws = (counter_absence, counter_second, counter_first, counter_implication)
 
 module _ (t : Rules) (word : t.required < 2 ^ 64) (parent sheet : List ℕ) (kind p q : ℕ) (holds : Bool) (h : Denied t parent sheet kind p q holds) where
   pub no_low : (p < 64) × (q < 64)
@@ -287,26 +264,18 @@ begun_told sheet out kind p q holds b e w r after f g = record {
 
 -- ---- a question that can be asked, of a table that passed its test
 
--- the kind of a question that can be asked fits a byte
-module _ (t : Rules) (kind p q : ℕ) (can : askable t kind p q ≡ true) where
-  byte : kind ≡ kind % 256
-  byte = omega (arith, (askable_asked t kind p q can).high)
-
-  pub asked_byte : askable t (kind % 256) p q ≡ true
-  asked_byte = subst (λ (k : ℕ). askable t k p q ≡ true) byte can
-
-  pub answers_byte : (out : List ℕ) (r : Reply) (after : List ℕ) → AnswersQuestion t (kind % 256) p q out r after → AnswersQuestion t kind p q out r after
-  answers_byte out r after a = subst (λ (k : ℕ). AnswersQuestion t k p q out r after) (sym byte) a
-
 pub invalid_barred : (t : Rules) (kind p q : ℕ) (out : List ℕ) → t.required < 2 ^ 64 → (b : Bool) → b ≡ table_passes t → not b ≡ true
     → AnswersQuestion t kind p q out (Reply.Refused 12 0) out
 invalid_barred t kind p q out word b e f = ask_refuses t kind p q out word (sym e ∙ not-true b f)
 
 pub unasked_barred : (t : Rules) (kind p q : ℕ) (out : List ℕ) → t.required < 2 ^ 64 → (b : Bool) → b ≡ table_passes t → not b ≡ false
-    → (a : Bool) → a ≡ askable t kind p q → not a ≡ true → AnswersQuestion t kind p q out (Reply.Refused 13 0) out
-unasked_barred t kind p q out word b e f a g h = ask_bars t kind p q out word (sym e ∙ not-false b f) (sym g ∙ not-true a h)
+    → askable t kind p q ≡ false → AnswersQuestion t kind p q out (Reply.Refused 13 0) out
+unasked_barred t kind p q out word b e f g = ask_bars t kind p q out word (sym e ∙ not-false b f) g
 
-pub question_passed : (t : Rules) (parent : List ℕ) (kind p q : ℕ) (b : Bool) → b ≡ table_passes t → not b ≡ false
-    → (a : Bool) → a ≡ askable t kind p q → not a ≡ false → parent ≡ parents_in t.parent t.paths → PassedQuestion t parent (kind % 256) p q
-question_passed t parent kind p q b e f a g h i =
-    record { passed = valid_passed t parent b e f i; can = asked_byte t kind p q (sym g ∙ not-false a h) }
+-- the question that is asked is the one that was put
+module _ (t : Rules) (kind p q k x y : ℕ) (can : askable t kind p q ≡ true) (d : kind ≡ k) (e : p ≡ x) (f : q ≡ y) where
+  pub question_passed : (parent : List ℕ) (b : Bool) → b ≡ table_passes t → not b ≡ false → parent ≡ parents_in t.parent t.paths → PassedQuestion t parent k x y
+  question_passed parent b g h i = record { passed = valid_passed t parent b g h i; can = rw (d, e, f) at can }
+
+  pub question_answered : (out : List ℕ) (r : Reply) (after : List ℕ) → AnswersQuestion t k x y out r after → AnswersQuestion t kind p q out r after
+  question_answered out r after a = rw (d, e, f) a

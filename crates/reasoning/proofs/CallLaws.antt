@@ -7,15 +7,15 @@ use mathlib.Core.List.{List, [], ◌∷◌, Memᴰ}
 use native.Mathlib.Omega.{arith}
 use lib.Dec.{T}
 use Rattle.files.specs.declared.rules.Rules.{Rules}
-use Rattle.files.specs.declared.write.Written.{Written}
+use Rattle.files.specs.Writing.{Written}
 use Rattle.files.specs.Number.{limit, bytes_of_all}
 use Rattle.files.specs.Rules.{parents_in, ValidTable}
 use Rattle.files.specs.Table.{Rule}
 use Rattle.files.specs.TableTest.{table_passes}
 use Rattle.files.specs.Writing.{put, wrapped, Puts}
 use Rattle.files.proofs.TableTests.{passes_valid}
-use Rattle.reasoning.specs.declared.consistency.Verdict.{Verdict}
-use Rattle.reasoning.specs.declared.question.Reply.{Reply}
+use Rattle.reasoning.specs.Verdict.{Verdict}
+use Rattle.reasoning.specs.Reply.{Reply}
 use Rattle.reachable.specs.Arrays.{parent_of, rule_list}
 use Rattle.documents.specs.Judgement.{parents_of}
 use Rattle.reasoning.specs.Calls.{rule_list_of, asked_of, Answered, answer_of, document_bytes, inconsistent_bytes, evidence_bytes, askable, counter_start, DecidesConsistency, AnswersQuestion}

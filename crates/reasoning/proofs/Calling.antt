@@ -1,14 +1,12 @@
 -- The calls: from a table that passed its test to what they promise.
-use Prim.Native.Nat.{ℕ, ◌+◌, ◌^◌, ◌<◌, ◌≤◌}
+use Prim.Native.Nat.{ℕ, ◌^◌, ◌<◌, ◌≤◌}
 use mathlib.Core.Path.{◌≡◌, sym, ap, subst, ◌∙◌}
 use mathlib.Core.Bool.{Bool, true, false, not}
 use borrow.Author.Tests.{not-true, not-false}
-use mathlib.Core.List.{List, ◌∷◌}
+use mathlib.Core.List.{List, [], ◌∷◌, ◌++◌}
 use native.Mathlib.Omega.{arith}
-use lib.ListN.{length, take, drop}
-use lib.Seq.{length-sets, sets-eq, take_at}
 use Rattle.files.specs.declared.rules.Rules.{Rules}
-use Rattle.files.specs.declared.write.Written.{Written}
+use Rattle.files.specs.Writing.{Written}
 use Rattle.files.specs.Number.{bytes_of_all}
 use Rattle.files.specs.Rules.{rules_of, parents_in, ValidTable}
 use Rattle.files.specs.TableTest.{table_passes}
@@ -32,12 +30,13 @@ use Rattle.reachable.proofs.Sheets.{laid_out, sheet_says}
 use Rattle.evidence.specs.declared.ground.Ground.{Ground}
 use Rattle.evidence.specs.Stored.{Stored}
 use Rattle.evidence.specs.Choices.{clashing_in}
-use Rattle.evidence.specs.Grounds.{given, InRange, conflict_ground, ground_numbers}
+use Rattle.std.specs.Prelude.{Option, Some, None, is_some}
+use Rattle.evidence.specs.Grounds.{InRange, conflict_ground, ground_numbers}
 use Rattle.evidence.proofs.Joins.{clashing_same}
 use Rattle.evidence.proofs.GroundJoins.{conflict_given, conflict_written, conflict_in}
 use Rattle.handed.specs.Writer.{start_of, document_in}
 use Rattle.handed.proofs.WrittenDocument.{document_written}
-use Rattle.reasoning.specs.declared.consistency.Verdict.{Verdict}
+use Rattle.reasoning.specs.Verdict.{Verdict}
 use Rattle.reasoning.specs.Calls.{answer_of, DecidesConsistency}
 use Rattle.reasoning.specs.Lent.{Passed, Witnessed, Told}
 use Rattle.reasoning.proofs.CallLaws.{consistency_refuses, consistency_hands, consistency_shows}
@@ -78,28 +77,28 @@ module _ (t : Rules) (word : t.required < 2 ^ 64) (parent : List ℕ) (h : Passe
         → clash ≡ clashing (parent_of parent) (rule_list t.kind t.left t.right t.rules) t.paths
     passed_clash clash c = c ∙ clashing_same passed_fits passed_sound.parents.some passed_says
 
-    module _ (clash : ℕ) (c : clash ≡ clashing_in sheet) (needed : ℕ) (f : needed ≡ with_path t.required 0) (g : Ground)
+    module _ (clash : ℕ) (c : clash ≡ clashing_in sheet) (needed : ℕ) (f : needed ≡ with_path t.required 0) (g : Option Ground)
         (is : g ≡ conflict_ground sheet clash needed) where
-      pub passed_range : InRange g
-      passed_range = rw is (conflict_in passed_fits passed_sound.parents.some passed_says needed clash (passed_clash clash c))
+      agrees : not (consistentb (parent_of parent) (rule_list t.kind t.left t.right t.rules) t.paths needed) ≡ is_some g
+      agrees = sym (ap is_some is ∙ conflict_given passed_fits passed_sound.parents.some passed_says needed clash (passed_clash clash c))
 
-      module _ (b : Bool) (test : b ≡ given g) where
-        agrees : not (consistentb (parent_of parent) (rule_list t.kind t.left t.right t.rules) t.paths needed) ≡ b
-        agrees =
-            sym (test ∙ ap given is ∙ conflict_given passed_fits passed_sound.parents.some passed_says needed clash (passed_clash clash c))
+      passed_witnessed : g ≡ None → Witnessed t parent sheet needed
+      passed_witnessed z = record { lent = record { passed = h; laid = e }; needed_is = f; agrees = not-false _ (rw z at agrees) }
 
-        passed_witnessed : b ≡ false → Witnessed t parent sheet needed
-        passed_witnessed z = record { lent = record { passed = h; laid = e }; needed_is = f; agrees = not-false _ (agrees ∙ z) }
+      module _ (k : Ground) (some : g ≡ Some k) where
+        pub passed_range : InRange (Some k)
+        passed_range =
+            subst InRange (sym is ∙ some) (conflict_in passed_fits passed_sound.parents.some passed_says needed clash (passed_clash clash c))
 
-        pub passed_conflict : (out : List ℕ) (r : Verdict) (after : List ℕ) → b ≡ true
-            → Told Verdict.Inconsistent Verdict.Refused (ground_numbers sheet g) out r after → DecidesConsistency t out r after
-        passed_conflict out r after z w =
+        pub passed_conflict : (out : List ℕ) (r : Verdict) (after : List ℕ)
+            → Told Verdict.Inconsistent Verdict.Refused (ground_numbers sheet (Some k)) out r after → DecidesConsistency t out r after
+        passed_conflict out r after w =
             let no : consistentb (parent_of parent) (rule_list t.kind t.left t.right t.rules) t.paths needed ≡ false =
-            not-true _ (agrees ∙ z) in
+            not-true _ (rw some at agrees) in
             consistency_shows t out word h.passes parent h.lent
             (rw f at no)
-            (ground_numbers sheet g)
-            (rw f at (ap (ground_numbers sheet) is
+            (ground_numbers sheet (Some k))
+            (rw f at (ap (ground_numbers sheet) (sym some ∙ is)
             ∙ conflict_written passed_fits passed_sound.parents.some passed_says needed clash (passed_clash clash c) no))
             w.written r after w.puts w.is
 
@@ -132,32 +131,21 @@ module _ (t : Rules) (word : t.required < 2 ^ 64) (parent sheet : List ℕ) (nee
 -- a table that passed its test and whose ground of conflict is none: its witness was put
 module _ (t : Rules) (word : t.required < 2 ^ 64) (parent : List ℕ) (h : Passed t parent) (sheet : List ℕ)
     (e : sheet ≡ sheet_of (parent_of parent) (rule_list t.kind t.left t.right t.rules) t.paths) (clash : ℕ) (c : clash ≡ clashing_in sheet)
-    (needed : ℕ) (f : needed ≡ with_path t.required 0) (g : Ground) (is : g ≡ conflict_ground sheet clash needed) (b : Bool) (test : b ≡ given g) where
-  pub passed_witness : (out : List ℕ) (r : Verdict) (after : List ℕ) → b ≡ false
+    (needed : ℕ) (f : needed ≡ with_path t.required 0) (g : Option Ground) (is : g ≡ conflict_ground sheet clash needed) where
+  pub passed_witness : (out : List ℕ) (r : Verdict) (after : List ℕ) → g ≡ None
       → Told Verdict.Consistent Verdict.Refused (document_in sheet needed 0) out r after → DecidesConsistency t out r after
-  passed_witness out r after z w =
-      witness_told t word parent sheet needed (passed_witnessed t word parent h sheet e clash c needed f g is b test z) out r after w
+  passed_witness out r after z w = witness_told t word parent sheet needed (passed_witnessed t word parent h sheet e clash c needed f g is z) out r after w
 
 -- ---- evidence that was collected
 
-pub taken : (ns before after : List ℕ) (most n : ℕ) → Stored ns most before 0 after n → most ≤ length before → take n after ≡ ns
-taken ns before after most n s room =
-    let few : 0 + length ns ≤ length before = omega (arith, s.end, s.room) in
-    ap (take n) (s.numbers ∙ sets-eq ns before 0 few)
-    ∙ take_at ns (drop (0 + length ns) before) n (omega (arith, s.end))
-
-pub told : {A : Type 0} (done : ℕ → A) (refused : ℕ → ℕ → A) (ns before numbers out : List ℕ) (most n : ℕ) → Stored ns most before 0 numbers n → most ≤ length before
-    → (w : Written) (r : A) (after : List ℕ) → Puts (put (bytes_of_all (wrapped (take n numbers))) out) w after → r ≡ answer_of done refused w
+pub told : {A : Type 0} (done : ℕ → A) (refused : ℕ → ℕ → A) (ns before numbers lent out : List ℕ) (most : ℕ) → before ≡ [] → Stored ns most before numbers
+    → lent ≡ numbers → (w : Written) (r : A) (after : List ℕ) → Puts (put (bytes_of_all (wrapped lent)) out) w after → r ≡ answer_of done refused w
     → Told done refused ns out r after
-told done refused ns before numbers out most n s room w r after p g = record {
+told done refused ns before numbers lent out most none s is w r after p g = record {
   written = w;
-  puts = rw (taken ns before numbers most n s room) at p;
+  puts = subst (λ (l : List ℕ). Puts (put (bytes_of_all (wrapped l)) out) w after) (is ∙ s.numbers ∙ ap (λ (l : List ℕ). l ++ ns) none) p;
   is = g;
 }
-
--- as many numbers are lent as were collected
-pub lent_some : (ns before after : List ℕ) (most n : ℕ) → Stored ns most before 0 after n → most ≤ length before → n ≡ length (take n after)
-lent_some ns before after most n s room = s.end ∙ omega arith ∙ sym (ap length (taken ns before after most n s room))
 
 -- ---- the test of the table
 
@@ -166,7 +154,3 @@ invalid_refused t out word b e f = consistency_refuses t out word (sym e ∙ not
 
 pub valid_passed : (t : Rules) (parent : List ℕ) (b : Bool) → b ≡ table_passes t → not b ≡ false → parent ≡ parents_in t.parent t.paths → Passed t parent
 valid_passed t parent b e f g = record { passes = sym e ∙ not-false b f; lent = g }
-
-pub lent_within : (ns before after : List ℕ) (most n : ℕ) → Stored ns most before 0 after n → most ≤ length before → n ≤ length after
-lent_within ns before after most n s room =
-    omega (arith, s.room, ap length s.numbers, length-sets before 0 ns)

@@ -9,7 +9,7 @@ use Rattle.files.specs.declared.rules.Rules.{Rules}
 use Rattle.files.specs.Format.{Outcome, got}
 use Rattle.files.specs.Number.{bytes_of_all}
 use Rattle.files.specs.Rules.{ValidTable}
-use Rattle.documents.specs.declared.check.Checked.{Checked}
+use Rattle.documents.specs.Answers.{Checked}
 use Rattle.documents.specs.Checking.{CheckDocument}
 use Rattle.documents.specs.Judgement.{parents_of, Reads, obeys}
 use Rattle.documents.specs.PartList.{Entry, document_numbers, ValidParts}
@@ -18,8 +18,8 @@ use Rattle.documents.proofs.CheckingJoins.{Obeyed, obeys_judged}
 use Rattle.theory.specs.Handed.{Start}
 use Rattle.theory.proofs.HandedQuestions.{counter_same}
 use Rattle.theory.proofs.HandedRows.{Begins}
-use Rattle.reasoning.specs.declared.consistency.Verdict.{Verdict}
-use Rattle.reasoning.specs.declared.question.Reply.{Reply}
+use Rattle.reasoning.specs.Verdict.{Verdict}
+use Rattle.reasoning.specs.Reply.{Reply}
 use Rattle.reasoning.specs.Calls.{IsDocument, HandsBack, VerdictCase, ReplyCase, DecidesConsistency, AnswersQuestion}
 use Rattle.reasoning.proofs.ConsistencyJoins.{asked_begins}
 use Rattle.reasoning.proofs.Placed.{fills_take}

@@ -13,7 +13,12 @@ use Rattle.files.specs.Rules.{rules_of, ValidTable}
 use Rattle.files.specs.TableTest.{table_passes}
 use Rattle.files.specs.Writing.{put}
 use Rattle.files.proofs.TableTests.{passes_valid}
-use Rattle.reasoning.specs.declared.consistency.Verdict.{Verdict}
+use Rattle.std.specs.Prelude.{Result, Ok, Err}
+use Rattle.files.specs.declared.refusal.Refusal.{Refusal}
+use Rattle.files.specs.Refusals.{condition_number}
+use Rattle.files.proofs.Conditions.{refusal_once}
+use Rattle.reasoning.specs.declared.consistency.Verdict.{Verdict as Returned}
+use Rattle.reasoning.specs.Verdict.{Verdict, verdict}
 use Rattle.documents.specs.Judgement.{parents_of}
 use Rattle.reasoning.specs.Calls.{
   rule_list_of,
@@ -326,3 +331,18 @@ consistency_decides t out r after word is leaves = case_decides t out word r aft
 pub consistency_unique : (t : Rules) (out : List ℕ) (r q : Verdict) (after other : List ℕ) → DecidesConsistency t out r after
     → DecidesConsistency t out q other → (r ≡ q) × (after ≡ other)
 consistency_unique t out r q after other h k = (h.answer ∙ sym k.answer, h.buffer ∙ sym k.buffer)
+
+-- a result is known by its verdict
+pub verdict_known : (r q : Result Returned Refusal) → verdict r ≡ verdict q → r ≡ q
+verdict_known (Ok (Returned.Consistent n)) (Ok (Returned.Consistent m)) e = let f : n ≡ m = cc in ap (λ (k : ℕ). Ok (Returned.Consistent k)) f
+verdict_known (Ok (Returned.Consistent n)) (Ok (Returned.Inconsistent m)) e = absurd (let z : ◌≡◌ {A = ℕ} 0 1 = cc in omega arith)
+verdict_known (Ok (Returned.Consistent n)) (Err q) e = absurd (let z : ◌≡◌ {A = ℕ} 0 1 = cc in omega arith)
+verdict_known (Ok (Returned.Inconsistent n)) (Ok (Returned.Consistent m)) e = absurd (let z : ◌≡◌ {A = ℕ} 0 1 = cc in omega arith)
+verdict_known (Ok (Returned.Inconsistent n)) (Ok (Returned.Inconsistent m)) e = let f : n ≡ m = cc in ap (λ (k : ℕ). Ok (Returned.Inconsistent k)) f
+verdict_known (Ok (Returned.Inconsistent n)) (Err q) e = absurd (let z : ◌≡◌ {A = ℕ} 0 1 = cc in omega arith)
+verdict_known (Err r) (Ok (Returned.Consistent m)) e = absurd (let z : ◌≡◌ {A = ℕ} 0 1 = cc in omega arith)
+verdict_known (Err r) (Ok (Returned.Inconsistent m)) e = absurd (let z : ◌≡◌ {A = ℕ} 0 1 = cc in omega arith)
+verdict_known (Err r) (Err q) e =
+    let a : condition_number r.condition ≡ condition_number q.condition = cc in
+    let b : r.offset ≡ q.offset = cc in
+    ap Err (refusal_once r q a b)

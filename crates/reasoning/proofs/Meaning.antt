@@ -10,8 +10,8 @@ use Rattle.files.specs.declared.rules.Rules.{Rules}
 use Rattle.files.specs.Rules.{ValidTable}
 use Rattle.documents.specs.Tree.{Forest}
 use Rattle.theory.specs.Counter.{question_of}
-use Rattle.reasoning.specs.declared.consistency.Verdict.{Verdict}
-use Rattle.reasoning.specs.declared.question.Reply.{Reply}
+use Rattle.reasoning.specs.Verdict.{Verdict}
+use Rattle.reasoning.specs.Reply.{Reply}
 use Rattle.reasoning.specs.Calls.{Agrees, VerdictCase, Asked, Follows, Breaks, ReplyCase, DecidesConsistency, AnswersQuestion}
 use Rattle.reasoning.proofs.QuestionJoins.{breaks_follows, counters_breaks}
 

@@ -7,8 +7,7 @@ use lib.Dec.{leb}
 use lib.ListN.{length, take, drop}
 use lib.Seq.{take-append_seam}
 use borrow.Author.Tests.{leb-true, leb-false}
-use Rattle.files.specs.declared.write.Written.{Written}
-use Rattle.files.specs.declared.write.Written.TheVariants.{Length, Refused}
+use Rattle.files.specs.Writing.{Written}
 use Rattle.files.specs.Writing.{put, Puts}
 use Rattle.reasoning.specs.Calls.{Answered, answer_of, answered, Fills}
 
@@ -50,13 +49,3 @@ fills_take {bytes} {out} f = ap (take (length bytes)) f.are ∙ take-append_seam
 -- and fix the buffer
 pub fills_same : {bytes out after other : List ℕ} → Fills bytes out after → Fills bytes out other → after ≡ other
 fills_same f g = f.are ∙ sym g.are
-
--- the answer by the cases of what putting the bytes answered
-module _ {A : Type 0} (done : ℕ → A) (refuse : ℕ → ℕ → A) (w : Written) where
-  pub answer_length : {n : ℕ} → w ≡ Length n → done n ≡ answer_of done refuse w
-  unfolding answer_of
-  answer_length e = rw e refl
-
-  pub answer_refused : {k at : ℕ} → w ≡ Refused k at → refuse k at ≡ answer_of done refuse w
-  unfolding answer_of
-  answer_refused e = rw e refl

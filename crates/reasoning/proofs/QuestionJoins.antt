@@ -17,7 +17,12 @@ use Rattle.files.specs.TableTest.{table_passes}
 use Rattle.files.specs.Writing.{put}
 use Rattle.files.proofs.TableTests.{passes_valid}
 use Rattle.documents.specs.Tree.{Forest}
-use Rattle.reasoning.specs.declared.question.Reply.{Reply}
+use Rattle.std.specs.Prelude.{Result, Ok, Err}
+use Rattle.files.specs.declared.refusal.Refusal.{Refusal}
+use Rattle.files.specs.Refusals.{condition_number}
+use Rattle.files.proofs.Conditions.{refusal_once}
+use Rattle.reasoning.specs.declared.question.Reply.{Reply as Returned}
+use Rattle.reasoning.specs.Reply.{Reply, reply}
 use Rattle.documents.specs.Judgement.{parents_of}
 use Rattle.reasoning.specs.Calls.{
   rule_list_of,
@@ -416,3 +421,18 @@ ask_answers t kind p q out r after word is leaves =
 pub ask_unique : (t : Rules) (kind p q : ℕ) (out : List ℕ) (r s : Reply) (after other : List ℕ) → AnswersQuestion t kind p q out r after
     → AnswersQuestion t kind p q out s other → (r ≡ s) × (after ≡ other)
 ask_unique t kind p q out r s after other h k = reply_unique t kind p q out h.means k.means
+
+-- a result is known by its reply
+pub reply_known : (r q : Result Returned Refusal) → reply r ≡ reply q → r ≡ q
+reply_known (Ok (Returned.Yes n)) (Ok (Returned.Yes m)) e = let f : n ≡ m = cc in ap (λ (k : ℕ). Ok (Returned.Yes k)) f
+reply_known (Ok (Returned.Yes n)) (Ok (Returned.No m)) e = absurd (let z : ◌≡◌ {A = ℕ} 0 1 = cc in omega arith)
+reply_known (Ok (Returned.Yes n)) (Err q) e = absurd (let z : ◌≡◌ {A = ℕ} 0 1 = cc in omega arith)
+reply_known (Ok (Returned.No n)) (Ok (Returned.Yes m)) e = absurd (let z : ◌≡◌ {A = ℕ} 0 1 = cc in omega arith)
+reply_known (Ok (Returned.No n)) (Ok (Returned.No m)) e = let f : n ≡ m = cc in ap (λ (k : ℕ). Ok (Returned.No k)) f
+reply_known (Ok (Returned.No n)) (Err q) e = absurd (let z : ◌≡◌ {A = ℕ} 0 1 = cc in omega arith)
+reply_known (Err r) (Ok (Returned.Yes m)) e = absurd (let z : ◌≡◌ {A = ℕ} 0 1 = cc in omega arith)
+reply_known (Err r) (Ok (Returned.No m)) e = absurd (let z : ◌≡◌ {A = ℕ} 0 1 = cc in omega arith)
+reply_known (Err r) (Err q) e =
+    let a : condition_number r.condition ≡ condition_number q.condition = cc in
+    let b : r.offset ≡ q.offset = cc in
+    ap Err (refusal_once r q a b)

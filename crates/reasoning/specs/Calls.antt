@@ -1,8 +1,8 @@
 -- The two calls: what each answers, what the lent buffer then holds, and what that means over all documents.
 use Rattle.std.specs.Prelude.{ℕ, ◌≤◌, ◌<◌, ◌≡◌, ◌↔◌, ◌⊎◌, Bool, true, false, ◌&&◌, List, ◌∷◌, ◌++◌, leb, ltb, length, take, drop}
 use Rattle.files.specs.declared.rules.Rules.{Rules}
-use Rattle.files.specs.declared.write.Written.{Written}
-use Rattle.files.specs.declared.write.Written.TheVariants.{Length, Refused}
+use Rattle.files.specs.Writing.{Written}
+use Rattle.files.specs.Writing.{Length, Refused}
 use Rattle.files.specs.Format.{got, run_all}
 use Rattle.files.specs.Number.{bytes_of_all}
 use Rattle.files.specs.Rules.{rules_of, ValidTable}
@@ -14,8 +14,8 @@ use Rattle.documents.specs.Judgement.{parents_of}
 use Rattle.documents.specs.Tree.{Forest, Document}
 use Rattle.documents.specs.Obey.{ObeysRule, Obeys}
 use Rattle.documents.specs.PartList.{Entry, document_file, document_numbers, StandsFor}
-use Rattle.reasoning.specs.declared.consistency.Verdict.{Verdict}
-use Rattle.reasoning.specs.declared.question.Reply.{Reply}
+use Rattle.reasoning.specs.Verdict.{Verdict}
+use Rattle.reasoning.specs.Reply.{Reply}
 use Rattle.theory.specs.Reachable.{reachable}
 use Rattle.theory.specs.Counter.{CounterGoals, question_of, Counters}
 use Rattle.theory.specs.Evidence.{yesb, consistentb, evidence_numbers, inconsistent_numbers, Shows, ShowsInconsistent, Writes, WritesInconsistent}

@@ -2,3 +2,5 @@
 pub mod Calls
 pub mod Examples
 pub mod Lent
+pub mod Reply
+pub mod Verdict

@@ -1,82 +1,64 @@
 // Questions to the rules.
-ghost use Rattle.std.specs.Prelude.{◌<◌, ◌≡◌, ◌++◌};
+ghost use Rattle.std.specs.Prelude.{◌<◌, ◌≡◌, ◌++◌, true, false, MatchOption};
+ghost use Rattle.files.specs.Kinds.{kind_number};
 ghost use Rattle.evidence.specs.Grounds.{InRange, ground_numbers};
-ghost use Rattle.reasoning.specs.Calls.{answer_of, askable, AnswersQuestion};
+ghost use Rattle.reasoning.specs.Calls.{askable, AnswersQuestion};
 ghost use Rattle.reasoning.specs.Lent.{Told, counter_on, counter_numbers, LentQuestion, PassedQuestion};
+ghost use Rattle.reasoning.specs.Reply.{Yes, No, Refused, reply};
 
+use arrayvec::ArrayVec;
 use evidence::choose::clashing;
 use evidence::collect::put_both;
 use evidence::decide::{grounds, is_direct};
-use evidence::ground::{Both, Ground, given, yes};
+use evidence::ground::{Both, Ground, yes};
+use files::kind::Kind;
+use files::refusal::{Condition, Refusal};
 use files::rules::{Rules, parents};
 use files::sets;
 use files::valid::valid_table;
-use files::write::{Written, put_numbers};
+use files::write::put_numbers;
 use handed::document::write_document;
-use reachable::grow::grow_sets;
 use reachable::lay::lay;
-use reachable::sheet::{WORDS, context};
+use reachable::sheet::Sheet;
 
-// Yes with evidence of so many bytes, no with a counter-document of so many bytes, or the refusal's number and place.
-#[derive(Clone, Copy)]
+// Yes with evidence of so many bytes, or no with a counter-document of so many bytes.
+#[derive(Clone, Copy, Debug, PartialEq, Eq)]
 pub enum Reply {
     Yes(usize),
     No(usize),
-    Refused(u8, usize),
-}
-
-// The reply of evidence that was put into the buffer.
-fn affirmed(w: Written) -> Reply
-    ensures { result ≡ answer_of Reply.Yes Reply.Refused w }
-{
-    match w {
-        Written::Length(n) => Reply::Yes(n),
-        Written::Refused(number, place) => Reply::Refused(number, place),
-    }
-}
-
-// The reply of a counter-document that was put into the buffer.
-fn denied(w: Written) -> Reply
-    ensures { result ≡ answer_of Reply.No Reply.Refused w }
-{
-    match w {
-        Written::Length(n) => Reply::No(n),
-        Written::Refused(number, place) => Reply::Refused(number, place),
-    }
-}
-
-// Whether a question can be asked of a table.
-fn can_ask(rules: Rules, kind: usize, left: usize, right: usize) -> bool
-    ensures { result ≡ askable rules kind left right }
-{
-    if kind < 1 {
-        return false;
-    }
-    if 3 < kind {
-        return false;
-    }
-    if rules.paths <= left {
-        return false;
-    }
-    right < rules.paths
 }
 
 // A yes: its evidence is put into the buffer.
-fn put_yes(sheet: &[u64; WORDS], b: Both, out: &mut [u8]) -> Reply
+fn put_yes(sheet: &Sheet, b: Both, out: &mut [u8]) -> Result<Reply, Refusal>
     requires { InRange b.first × InRange b.second }
-    ensures { Told Reply.Yes Reply.Refused (ground_numbers sheet.now b.first ++ ground_numbers sheet.now b.second) out.old result out.new }
+    ensures { Told Yes Refused (ground_numbers sheet.now b.first ++ ground_numbers sheet.now b.second) out.old (reply result) out.new }
 {
-    let mut numbers = [0u32; 400];
-    let n = put_both(sheet, b, &mut numbers);
-    affirmed(put_numbers(&numbers[..n], out))
+    let mut numbers = ArrayVec::new();
+    put_both(sheet, b, &mut numbers);
+    Ok(Reply::Yes(put_numbers(numbers.as_slice(), out)?))
 }
 
 // A question: its kind and its two paths.
 #[derive(Clone, Copy)]
 struct Question {
-    kind: u8,
+    kind: Kind,
     first: usize,
     second: usize,
+}
+
+// The question, if it can be asked of the table.
+#[tactic(auto, unfolding(crate::specs::Calls::askable))]
+fn asked(rules: &Rules, kind: usize, left: usize, right: usize) -> Option<Question>
+    ensures { MatchOption result (askable rules.now kind left right ≡ false) (λ c. (askable rules.now kind left right ≡ true) × (kind ≡ kind_number c.kind) × (left ≡ c.first) × (right ≡ c.second)) }
+{
+    match Kind::try_from(kind) {
+        Ok(kind) if left < rules.paths && right < rules.paths => Some(Question {
+            kind,
+            first: left,
+            second: right,
+        }),
+        _ => None,
+    }
 }
 
 // What a counter-document begins with: the goals of its part 0, and their context.
@@ -88,92 +70,95 @@ struct Begins {
 
 // What the counter-document begins with, by the question's kind; of a co-occurrence it shows the first failing direction, the second
 // one if the first holds.
-fn counter(sheet: &[u64; WORDS], c: Question, holds: bool) -> Begins
+#[tactic(auto, unfolding(crate::specs::Lent::counter_on))]
+fn counter(sheet: &Sheet, c: Question, holds: bool) -> Begins
     requires { (c.first < 64) × (c.second < 64) }
-    ensures { (result ≡ counter_on sheet.now c.kind c.first c.second holds) × (result.top < 64) }
+    ensures { (result ≡ counter_on sheet.now (kind_number c.kind) c.first c.second holds) × (result.top < 64) }
 {
-    let p = c.first;
-    let q = c.second;
-    if c.kind == 2 {
-        let top = context(sheet, p, q);
-        let one = sets::with(0, q);
-        let goals = sets::with(one, p);
-        return Begins { goals, top };
+    let (p, q) = (c.first, c.second);
+    match c.kind {
+        Kind::Absence => Begins {
+            goals: sets::with(sets::with(0, q), p),
+            top: sheet.context(p, q),
+        },
+        Kind::CoOccurrence if holds => Begins {
+            goals: sets::with(0, q),
+            top: q,
+        },
+        _ => Begins {
+            goals: sets::with(0, p),
+            top: p,
+        },
     }
-    if c.kind == 3 {
-        if holds {
-            let goals = sets::with(0, q);
-            return Begins { goals, top: q };
-        }
-    }
-    let goals = sets::with(0, p);
-    Begins { goals, top: p }
 }
 
 // A no: its counter-document is put into the buffer.
-fn put_no(sheet: &[u64; WORDS], c: Question, holds: bool, out: &mut [u8]) -> Reply
+fn put_no(sheet: &Sheet, c: Question, holds: bool, out: &mut [u8]) -> Result<Reply, Refusal>
     requires { (c.first < 64) × (c.second < 64) }
-    ensures { Told Reply.No Reply.Refused (counter_numbers sheet.now c.kind c.first c.second holds) out.old result out.new }
+    ensures { Told No Refused (counter_numbers sheet.now (kind_number c.kind) c.first c.second holds) out.old (reply result) out.new }
 {
     let b = counter(sheet, c, holds);
-    denied(write_document(sheet, b.goals, b.top, out))
+    Ok(Reply::No(write_document(sheet, b.goals, b.top, out)?))
 }
 
 // The reply by the grounds of the question, once all sets are grown.
 fn settle(
     rules: Rules,
     parent: &[u8; 64],
-    sheet: &[u64; WORDS],
+    sheet: &Sheet,
     c: Question,
     out: &mut [u8],
-) -> Reply
-    requires { LentQuestion rules parent.now sheet.now c.kind c.first c.second }
-    ensures { AnswersQuestion rules c.kind c.first c.second out.old result out.new }
+) -> Result<Reply, Refusal>
+    requires { LentQuestion rules parent.now sheet.now (kind_number c.kind) c.first c.second }
+    ensures { AnswersQuestion rules (kind_number c.kind) c.first c.second out.old (reply result) out.new }
 {
     let b = grounds(sheet, clashing(sheet), c.kind, c.first, c.second);
     if yes(c.kind, b) {
         return put_yes(sheet, b, out);
     }
-    let first = b.first;
-    put_no(sheet, c, given(first), out)
+    put_no(sheet, c, b.first.is_some(), out)
 }
 
 // The reply to a question that can be asked, of a table that passed its test. Where an implication is direct no set is grown.
-fn answer(rules: Rules, parent: &[u8; 64], c: Question, out: &mut [u8]) -> Reply
-    requires { PassedQuestion rules parent.now c.kind c.first c.second }
-    ensures { AnswersQuestion rules c.kind c.first c.second out.old result out.new }
+fn answer(rules: Rules, parent: &[u8; 64], c: Question, out: &mut [u8]) -> Result<Reply, Refusal>
+    requires { PassedQuestion rules parent.now (kind_number c.kind) c.first c.second }
+    ensures { AnswersQuestion rules (kind_number c.kind) c.first c.second out.old (reply result) out.new }
 {
-    let kind = rules.kind;
-    let left = rules.left;
-    let right = rules.right;
-    let mut sheet = lay(parent, &kind, &left, &right, rules.paths, rules.rules);
-    if c.kind == 1 {
-        if is_direct(&sheet, c.first, c.second) {
-            let first = Ground::Direct(c.first, c.second);
-            let second = Ground::None;
-            return put_yes(&sheet, Both { first, second }, out);
-        }
+    let mut table = rules;
+    table.parent = *parent;
+    let mut sheet = lay(&table);
+    if c.kind == Kind::Implication && is_direct(&sheet, c.first, c.second) {
+        let first = Some(Ground::Direct(c.first, c.second));
+        return put_yes(
+            &sheet,
+            Both {
+                first,
+                second: None,
+            },
+            out,
+        );
     }
-    grow_sets(&mut sheet, rules.paths);
+    sheet.grow(rules.paths);
     settle(rules, parent, &sheet, c, out)
 }
 
-// Whether every document that obeys the rules obeys the question: evidence or a counter-document is put into the buffer.
-pub fn ask(rules: Rules, kind: usize, left: usize, right: usize, out: &mut [u8]) -> Reply
-    ensures { AnswersQuestion rules kind left right out.old result out.new }
+// Whether every document that obeys the rules obeys the question: evidence or a counter-document is put into the buffer. The kind is a
+// number: one that no kind has is refused with 13.
+pub fn ask(
+    rules: Rules,
+    kind: usize,
+    left: usize,
+    right: usize,
+    out: &mut [u8],
+) -> Result<Reply, Refusal>
+    ensures { AnswersQuestion rules kind left right out.old (reply result) out.new }
 {
     if !valid_table(rules) {
-        return Reply::Refused(12, 0);
+        return Err(Condition::Table.at(0));
     }
-    if !can_ask(rules, kind, left, right) {
-        return Reply::Refused(13, 0);
-    }
-    let given = rules.parent;
-    let parent = parents(&given, rules.paths);
-    let c = Question {
-        kind: (kind % 256) as u8,
-        first: left,
-        second: right,
+    let Some(c) = asked(&rules, kind, left, right) else {
+        return Err(Condition::Question.at(0));
     };
+    let parent = parents(&rules.parent, rules.paths);
     answer(rules, &parent, c, out)
 }

@@ -1,35 +1,24 @@
 // Marked buffers: every byte holds the mark before a call, so that a byte written shows.
-pub const MARK: u8 = 0xA5;
 
-pub fn mark(out: &mut [u8]) {
-    for i in 0..out.len() {
-        out[i] = MARK;
-    }
+const MARK: u8 = 0xA5;
+
+// The room of every marked buffer: no answer about at most six paths is longer.
+pub const ROOM: usize = 512;
+
+pub fn marked() -> [u8; ROOM] {
+    [MARK; ROOM]
 }
 
 // The first place from `from` on whose byte does not hold the mark, or the length.
-pub fn unmarked(s: &[u8], from: usize) -> usize {
-    let mut at = from;
-    while at < s.len() {
-        if s[at] != MARK {
-            return at;
-        }
-        at += 1;
-    }
-    s.len()
+pub fn unmarked(bytes: &[u8], from: usize) -> usize {
+    bytes
+        .iter()
+        .enumerate()
+        .position(|(at, &byte)| from <= at && byte != MARK)
+        .unwrap_or(bytes.len())
 }
 
-// How many bytes at the start agree.
-pub fn agreeing(a: &[u8], b: &[u8]) -> usize {
-    let mut at = 0usize;
-    while at < a.len() {
-        if b.len() <= at {
-            return at;
-        }
-        if a[at] != b[at] {
-            return at;
-        }
-        at += 1;
-    }
-    at
+// How many items at the start agree.
+pub fn agreeing<T: PartialEq>(a: &[T], b: &[T]) -> usize {
+    a.iter().zip(b).take_while(|(x, y)| x == y).count()
 }

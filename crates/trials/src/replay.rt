@@ -1,200 +1,156 @@
 // Evidence replayed from its bytes: each step is checked by its code, each form and each choice by what 01 says of it.
-//
-// Every reader here takes a place and answers the place after what it read, or WRONG; from WRONG on nothing can be read.
+use crate::cursor::Cursor;
 use crate::least::{
-    ALIVE, distance, layers, least_code, least_conflict, least_pair, lowest_dead, lowest_to,
-    reaches,
+    Deaths, Exclusion, absence, distance, layers, least_code, least_conflict, least_pair,
+    lowest_dead, lowest_to, reaches,
 };
-use crate::paths::{common, prefixes, within};
-use crate::small::{SmallSet, rule_of};
-use crate::steps::{MISSING, context_of_rule, inside, is_absence, step};
-use files::number::wide;
+use crate::paths::{common, context_of, inside, prefixes};
+use crate::rule::Rule;
+use crate::small::{SLOTS, SmallSet};
+use crate::steps::step;
+use crate::words::within;
+use files::kind::Kind;
 
-const WRONG: usize = 1000000;
-
-// The number at a place.
-pub fn number(s: &[u8], at: usize) -> usize {
-    if s.len() <= at {
-        return MISSING;
-    }
-    let low = wide(s[at]);
-    if low < 128 {
-        return low;
-    }
-    let next = at + 1;
-    if s.len() <= next {
-        return MISSING;
-    }
-    low % 128 + wide(s[next]) * 128
+// What is named after a form or a part of evidence reads it, and answers nothing where the bytes say something else.
+#[derive(Clone, Copy, Debug)]
+struct Replay<'a> {
+    set: &'a SmallSet,
+    deaths: &'a Deaths,
+    cursor: Cursor<'a>,
 }
 
-pub fn after(s: &[u8], at: usize) -> usize {
-    if s.len() <= at {
-        return WRONG;
+impl<'a> Replay<'a> {
+    fn new(set: &'a SmallSet, deaths: &'a Deaths, evidence: &'a [u8]) -> Self {
+        Replay {
+            set,
+            deaths,
+            cursor: Cursor::new(evidence),
+        }
     }
-    let next = at + 1;
-    if s[at] < 128 {
-        return next;
-    }
-    if s.len() <= next {
-        return WRONG;
-    }
-    next + 1
-}
 
-// The place after a number that has to be n.
-fn expect(s: &[u8], at: usize, n: usize) -> usize {
-    if number(s, at) == n {
-        return after(s, at);
+    // The path after the step from x, the least into a word; never outside the subtree.
+    fn step(&mut self, top: u64, word: u64, x: usize) -> Option<usize> {
+        let code = least_code(self.set, word, x)?;
+        self.cursor.expect(&[code])?;
+        let y = step(self.set, code, x)?;
+        inside(self.set, top, y).then_some(y)
     }
-    WRONG
-}
 
-// The path after the step from x that is written at a place, the least into a word; never outside the subtree.
-fn take_step(set: SmallSet, s: &[u8], at: usize, top: u64, word: u64, x: usize) -> usize {
-    let code = number(s, at);
-    if code != least_code(set, word, x) {
-        return MISSING;
+    // The least walk from p to q inside the subtree: each step leads to the paths that are nearer to its end.
+    fn walk(&mut self, top: u64, p: usize, q: usize) -> Option<()> {
+        let near = layers(self.set, top, q);
+        let count = distance(&near, p)?;
+        self.cursor.expect(&[count])?;
+        let mut x = p;
+        for &word in near.get(..count)?.iter().rev() {
+            x = self.step(top, word, x)?;
+        }
+        (x == q).then_some(())
     }
-    let y = step(set, code, x);
-    if inside(set, top, y) {
-        return y;
-    }
-    MISSING
-}
 
-// The paths that are nearer to the end than where step i of so many starts.
-fn slot(near: &[u64; 8], count: usize, i: usize) -> u64 {
-    near[(count % 8 + 7 - i % 8) % 8]
-}
+    // Walks from p to one side of the absence and from q to the other, inside its context, which `below` is to be below.
+    fn two_walks(&mut self, below: u64, by: Exclusion, p: usize, q: usize) -> Option<()> {
+        let rule = *absence(self.set, by.rule)?;
+        let top = context_of(self.set, &rule);
+        if !within(top, below) {
+            return None;
+        }
+        let (first, second) = if by.crossed {
+            (rule.right, rule.left)
+        } else {
+            (rule.left, rule.right)
+        };
+        self.walk(top, p, first)?;
+        self.walk(top, q, second)
+    }
 
-// The steps of a walk from p to q whose step count was read.
-fn walk_on(
-    set: SmallSet,
-    s: &[u8],
-    start: usize,
-    top: u64,
-    near: &[u64; 8],
-    count: usize,
-    p: usize,
-    q: usize,
-) -> usize {
-    let mut at = start;
-    let mut x = p;
-    for i in 0..count {
-        x = take_step(set, s, at, top, slot(near, count, i), x);
-        at = after(s, at);
+    // Evidence that p is dead, by the least path and rule.
+    fn dead(&mut self, p: usize) -> Option<()> {
+        let death = self.deaths[p % SLOTS]?;
+        let y = death.by;
+        self.cursor.expect(&[2, p, y, death.rule])?;
+        self.walk(1, p, y)?;
+        let by = Exclusion::uncrossed(death.rule);
+        self.two_walks(prefixes(self.set, y), by, y, y)
     }
-    if x == q {
-        return at;
-    }
-    WRONG
-}
 
-// The least walk from p to q inside the subtree.
-fn walk(set: SmallSet, s: &[u8], at: usize, top: u64, p: usize, q: usize) -> usize {
-    let near = layers(set, top, q);
-    let count = number(s, at);
-    if count == MISSING {
-        return WRONG;
+    fn direct(&mut self, p: usize, q: usize) -> Option<()> {
+        self.cursor.expect(&[1])?;
+        self.walk(common(self.set, p, q), p, q)
     }
-    if count != distance(&near, p) {
-        return WRONG;
-    }
-    walk_on(set, s, after(s, at), top, &near, count, p, q)
-}
 
-// Walks from p to the rule's left side and from q to its right, or crossed, inside the rule's context, which `below` is to be
-// below.
-fn two_walks(
-    set: SmallSet,
-    s: &[u8],
-    at: usize,
-    below: u64,
-    r: usize,
-    crossed: bool,
-    p: usize,
-    q: usize,
-) -> usize {
-    if !is_absence(set, r) {
-        return WRONG;
+    // A pair at a node whose prefixes are `below`.
+    fn pair(&mut self, below: u64, by: Exclusion, p: usize, q: usize) -> Option<()> {
+        self.cursor
+            .expect(&[3, p, q, by.rule, usize::from(by.crossed)])?;
+        self.two_walks(below, by, p, q)
     }
-    let top = context_of_rule(set, r);
-    if !within(top, below) {
-        return WRONG;
-    }
-    let rule = rule_of(set, r);
-    if crossed {
-        let middle = walk(set, s, at, top, p, rule.right);
-        return walk(set, s, middle, top, q, rule.left);
-    }
-    let middle = walk(set, s, at, top, p, rule.left);
-    walk(set, s, middle, top, q, rule.right)
-}
 
-// Evidence that p is dead, by the least y and rule.
-fn dead(set: SmallSet, s: &[u8], at: usize, deaths: [u8; 8], p: usize) -> usize {
-    let least = wide(deaths[p % 8]);
-    let y = least / 8;
-    let r = least % 8;
-    let first = expect(s, expect(s, at, 2), p);
-    let second = expect(s, expect(s, first, y), r);
-    let there = walk(set, s, second, 1, p, y);
-    two_walks(set, s, there, prefixes(set, y), r, false, y, y)
-}
-
-fn direct(set: SmallSet, s: &[u8], at: usize, p: usize, q: usize) -> usize {
-    walk(set, s, expect(s, at, 1), common(set, p, q), p, q)
-}
-
-// A pair at a node whose prefixes are `below`, by rule and side.
-fn pair(set: SmallSet, s: &[u8], below: u64, r: usize, side: usize, p: usize, q: usize) -> usize {
-    let first = expect(s, expect(s, expect(s, 0, 3), p), q);
-    let second = expect(s, expect(s, first, r), side);
-    two_walks(set, s, second, below, r, side == 1, p, q)
-}
-
-// Direct if there is a walk, else dead for p.
-fn implication(set: SmallSet, s: &[u8], at: usize, deaths: [u8; 8], p: usize, q: usize) -> usize {
-    if reaches(set, common(set, p, q), p, q) {
-        return direct(set, s, at, p, q);
+    // Direct if there is a walk, else dead for p.
+    fn implication(&mut self, p: usize, q: usize) -> Option<()> {
+        if reaches(self.set, common(self.set, p, q), p, q) {
+            self.direct(p, q)
+        } else {
+            self.dead(p)
+        }
     }
-    dead(set, s, at, deaths, p)
-}
 
-// Dead for p, else dead for q, else the pair with the least rule.
-fn absence(set: SmallSet, s: &[u8], deaths: [u8; 8], p: usize, q: usize) -> usize {
-    if deaths[p % 8] != ALIVE {
-        return dead(set, s, 0, deaths, p);
+    fn is_dead(&self, p: usize) -> bool {
+        self.deaths[p % SLOTS].is_some()
     }
-    if deaths[q % 8] != ALIVE {
-        return dead(set, s, 0, deaths, q);
+
+    // Dead for p, else dead for q, else the pair with the least rule.
+    fn absence(&mut self, p: usize, q: usize) -> Option<()> {
+        if self.is_dead(p) {
+            return self.dead(p);
+        }
+        if self.is_dead(q) {
+            return self.dead(q);
+        }
+        let below = common(self.set, p, q);
+        let by = least_pair(self.set, below, p, q)?;
+        self.pair(below, by, p, q)
     }
-    let below = common(set, p, q);
-    let least = least_pair(set, below, p, q);
-    pair(set, s, below, least / 2, least % 2, p, q)
+
+    fn yes(&mut self, question: Rule) -> Option<()> {
+        let Rule { kind, left, right } = question;
+        match kind {
+            Kind::Implication => self.implication(left, right),
+            Kind::Absence => self.absence(left, right),
+            Kind::CoOccurrence => {
+                self.implication(left, right)?;
+                self.implication(right, left)
+            }
+        }
+    }
+
+    // The least conflict on the root, else the lowest dead required path.
+    fn inconsistent(&mut self) -> Option<()> {
+        let Some(r) = least_conflict(self.set) else {
+            return self.dead(lowest_dead(self.set, self.deaths)?);
+        };
+        let rule = *absence(self.set, r)?;
+        let p = lowest_to(self.set, rule.left)?;
+        let q = lowest_to(self.set, rule.right)?;
+        self.pair(1, Exclusion::uncrossed(r), p, q)
+    }
 }
 
 // The place after the evidence of a yes.
-pub fn replay_yes(set: SmallSet, s: &[u8], deaths: [u8; 8], kind: u8, p: usize, q: usize) -> usize {
-    if kind == 2 {
-        return absence(set, s, deaths, p, q);
-    }
-    let there = implication(set, s, 0, deaths, p, q);
-    if kind == 1 {
-        return there;
-    }
-    implication(set, s, there, deaths, q, p)
+pub fn replay_yes(
+    set: &SmallSet,
+    deaths: &Deaths,
+    question: Rule,
+    evidence: &[u8],
+) -> Option<usize> {
+    let mut replay = Replay::new(set, deaths, evidence);
+    replay.yes(question)?;
+    Some(replay.cursor.place())
 }
 
-// The place after the evidence that a set is inconsistent: the least conflict on the root, else the lowest dead required path.
-pub fn replay_inconsistent(set: SmallSet, s: &[u8], deaths: [u8; 8]) -> usize {
-    let r = least_conflict(set);
-    if r == MISSING {
-        return dead(set, s, 0, deaths, lowest_dead(set, deaths));
-    }
-    let rule = rule_of(set, r);
-    let p = lowest_to(set, rule.left);
-    let q = lowest_to(set, rule.right);
-    pair(set, s, 1, r, 0, p, q)
+// The place after the evidence that a set is inconsistent.
+pub fn replay_inconsistent(set: &SmallSet, deaths: &Deaths, evidence: &[u8]) -> Option<usize> {
+    let mut replay = Replay::new(set, deaths, evidence);
+    replay.inconsistent()?;
+    Some(replay.cursor.place())
 }

@@ -1,112 +1,81 @@
 // Round trips: rules written and read, files read and written.
-use crate::calls::{REFUSED, WRITTEN, answered, told, written};
+use crate::calls::{read, write};
+use crate::case::Case;
+use crate::group::Group;
 use crate::marks::agreeing;
-use crate::score::{ROUNDS, note};
-use files::read::{Answer, read_rules};
+use crate::outcome::{Answer, Answered, Refused, answer_of, length_of};
 use files::rules::Rules;
-use files::write::write_rules;
 
-// How many labels at the start agree.
-fn agreeing_labels(a: &[u32; 64], b: &[u32; 64]) -> usize {
-    for x in 0..64usize {
-        if a[x] != b[x] {
-            return x;
-        }
-    }
-    64
-}
-
-fn agreeing_parents(a: &[u8; 64], b: &[u8; 64]) -> usize {
-    agreeing(a, b)
-}
-
-fn agreeing_sides(a: &[u8; 256], b: &[u8; 256]) -> usize {
-    agreeing(a, b)
-}
+// More than any rule file needs.
+const FILE_ROOM: usize = 4096;
 
 // At least `count` agree.
-fn note_agreeing(score: &mut [u32; 32], case: u64, count: usize, agreeing: usize) {
-    if count <= agreeing {
-        note(score, ROUNDS, case, count as u64, count as u64);
-        return;
-    }
-    note(score, ROUNDS, case, count as u64, agreeing as u64);
+fn note_agreeing<T: PartialEq>(case: &mut Case, count: usize, a: &[T], b: &[T]) {
+    case.note(Group::Rounds, count, agreeing(a, b).min(count));
 }
 
-// The same paths: the root's parent may be anything.
-fn note_same_paths(score: &mut [u32; 32], case: u64, a: Rules, b: Rules) {
-    let mut parent = a.parent;
-    let mut other_parent = b.parent;
-    let label = a.label;
-    let other_label = b.label;
-    parent[0] = 0;
-    other_parent[0] = 0;
-    note(score, ROUNDS, case, a.paths as u64, b.paths as u64);
-    note_agreeing(
-        score,
-        case,
-        a.paths,
-        agreeing_parents(&parent, &other_parent),
-    );
-    note_agreeing(score, case, a.paths, agreeing_labels(&label, &other_label));
+// The parents, but the root's, which may be anything.
+fn parents(rules: &Rules) -> [u8; 64] {
+    let mut parents = rules.parent;
+    parents[0] = 0;
+    parents
 }
 
-fn note_same_rules(score: &mut [u32; 32], case: u64, a: Rules, b: Rules) {
-    let kind = a.kind;
-    let other_kind = b.kind;
-    let left = a.left;
-    let other_left = b.left;
-    let right = a.right;
-    let other_right = b.right;
-    note(score, ROUNDS, case, a.required, b.required);
-    note(score, ROUNDS, case, a.rules as u64, b.rules as u64);
-    note_agreeing(score, case, a.rules, agreeing_sides(&kind, &other_kind));
-    note_agreeing(score, case, a.rules, agreeing_sides(&left, &other_left));
-    note_agreeing(score, case, a.rules, agreeing_sides(&right, &other_right));
+// Field by field and no `==`, since slots past the counts may hold anything.
+fn note_same(case: &mut Case, a: &Rules, b: &Rules) {
+    case.note(Group::Rounds, a.paths, b.paths);
+    note_agreeing(case, a.paths, &parents(a), &parents(b));
+    note_agreeing(case, a.paths, &a.label, &b.label);
+    case.note(Group::Rounds, a.required, b.required);
+    case.note(Group::Rounds, a.rules, b.rules);
+    note_agreeing(case, a.rules, &a.kind, &b.kind);
+    note_agreeing(case, a.rules, &a.left, &b.left);
+    note_agreeing(case, a.rules, &a.right, &b.right);
+}
+
+fn note_refused(case: &mut Case, refused: Refused) {
+    case.note(Group::Rounds, Ok(()), Err(refused));
 }
 
 // The rules of a file are the given ones.
-fn read_back(score: &mut [u32; 32], case: u64, rules: Rules, file: &[u8]) {
-    let reading = read_rules(file);
-    let answer = reading.answer;
-    match answer {
-        Answer::Refused(number, _) => note(score, ROUNDS, case, 0, number as u64),
-        Answer::Accepted => {
-            note_same_paths(score, case, rules, reading.rules);
-            note_same_rules(score, case, rules, reading.rules);
-        }
+fn read_back(case: &mut Case, rules: &Rules, file: &[u8]) {
+    match read(file) {
+        Ok(read) => note_same(case, rules, &read),
+        Err(refused) => note_refused(case, refused),
     }
 }
 
 // The rules that were read of a file are written as that file.
-pub fn write_back(score: &mut [u32; 32], case: u64, rules: Rules, file: &[u8]) {
-    let mut room = io::buffer();
-    let got = written(write_rules(rules, &mut room));
-    let n = file.len();
-    note(score, ROUNDS, case, told(answered(WRITTEN, n)), told(got));
-    note(score, ROUNDS, case, n as u64, agreeing(file, &room) as u64);
+pub fn write_back(case: &mut Case, rules: &Rules, file: &[u8]) {
+    let mut room = [0; FILE_ROOM];
+    let got = write(rules, &mut room);
+    let expected = Answered {
+        answer: Answer::Written,
+        length: file.len(),
+    };
+    case.note(Group::Rounds, Ok(expected), got);
+    case.note(Group::Rounds, file.len(), agreeing(file, &room));
 }
 
 // Rules written and read are the same, and written once more they give the same file.
-pub fn there_and_back(score: &mut [u32; 32], case: u64, rules: Rules) {
-    let mut room = io::buffer();
-    let got = written(write_rules(rules, &mut room));
-    let n = got.length;
-    note(score, ROUNDS, case, WRITTEN, got.answer);
-    if n <= 4096 {
-        read_back(score, case, rules, &room[..n]);
-        read_and_write(score, case, &room[..n]);
-        return;
+pub fn there_and_back(case: &mut Case, rules: &Rules) {
+    let mut room = [0; FILE_ROOM];
+    let got = write(rules, &mut room);
+    case.note(Group::Rounds, Ok(Answer::Written), answer_of(got));
+    let n = length_of(got);
+    match room.get(..n) {
+        Some(file) => {
+            read_back(case, rules, file);
+            read_and_write(case, file);
+        }
+        None => case.note(Group::Rounds, FILE_ROOM, n),
     }
-    note(score, ROUNDS, case, 4096, n as u64);
 }
 
 // A file read and written is the same.
-pub fn read_and_write(score: &mut [u32; 32], case: u64, file: &[u8]) {
-    let reading = read_rules(file);
-    let answer = reading.answer;
-    match answer {
-        Answer::Refused(_, _) => note(score, ROUNDS, case, 0, REFUSED),
-        Answer::Accepted => write_back(score, case, reading.rules, file),
+pub fn read_and_write(case: &mut Case, file: &[u8]) {
+    match read(file) {
+        Ok(rules) => write_back(case, &rules, file),
+        Err(refused) => note_refused(case, refused),
     }
 }

@@ -1,113 +1,143 @@
-// How many cases of each group passed and failed, and the lines printed about them.
-ghost use Rattle.std.specs.Prelude.{◌<◌};
+// How many cases of each group passed and failed, and the first of those that failed.
+use crate::case::Case;
+use crate::group::{GROUPS, Group};
+use arrayvec::{ArrayString, ArrayVec};
+use std::fmt;
+use std::fmt::Write;
 
 const STANDARD_OUTPUT: i32 = 1;
 
-pub const EXAMPLES: usize = 0;
+// No line is longer: a group, three numbers and the words between them.
+const LINE: usize = 128;
 
-pub const LIMITS: usize = 1;
-
-pub const REFUSALS: usize = 2;
-
-pub const ROUNDS: usize = 3;
-
-pub const BUFFERS: usize = 4;
-
-pub const VERDICTS: usize = 5;
-
-pub const QUESTIONS: usize = 6;
-
-pub const DOCUMENTS: usize = 7;
-
-pub const EVIDENCE: usize = 8;
-
-const TOTAL: usize = 15;
-
-fn print(text: &[u8]) {
-    io::write_all(STANDARD_OUTPUT, text);
+fn print<T: fmt::Display>(line: &T) {
+    let mut text = ArrayString::<LINE>::new();
+    let _fits = writeln!(text, "{line}");
+    io::write_all(STANDARD_OUTPUT, text.as_str().as_bytes());
 }
 
-fn print_number(n: u64) {
-    io::print_decimal(STANDARD_OUTPUT, n);
+#[derive(Clone, Copy, Debug, Default, PartialEq, Eq)]
+struct Count {
+    passed: u32,
+    failed: u32,
 }
 
-fn print_name(group: usize) {
-    match group {
-        EXAMPLES => print(b"examples"),
-        LIMITS => print(b"limits"),
-        REFUSALS => print(b"refusals"),
-        ROUNDS => print(b"round trips"),
-        BUFFERS => print(b"buffers"),
-        VERDICTS => print(b"random verdicts"),
-        QUESTIONS => print(b"random questions"),
-        DOCUMENTS => print(b"random documents"),
-        EVIDENCE => print(b"random evidence"),
-        _ => print(b"total"),
+impl Count {
+    fn add(&mut self, passes: bool) {
+        if passes {
+            self.passed = self.passed.saturating_add(1);
+        } else {
+            self.failed = self.failed.saturating_add(1);
+        }
+    }
+
+    fn plus(self, other: Count) -> Count {
+        Count {
+            passed: self.passed.saturating_add(other.passed),
+            failed: self.failed.saturating_add(other.failed),
+        }
     }
 }
 
-fn print_failure(group: usize, case: u64, expected: u64, got: u64) {
-    print_name(group);
-    print(b" case ");
-    print_number(case);
-    print(b" expected ");
-    print_number(expected);
-    print(b" got ");
-    print_number(got);
-    print(b"\n");
-}
-
-// One more in a slot of the score.
-fn count(score: &mut [u32; 32], slot: usize) {
-    let at = slot % 32;
-    let n = score[at];
-    if n < 1000000000 {
-        score[at] = n + 1;
+impl fmt::Display for Count {
+    fn fmt<W: fmt::Write>(&self, f: &mut fmt::Formatter<W>) -> fmt::Result {
+        let passed = self.passed;
+        let failed = self.failed;
+        write!(f, "passed {passed} failed {failed}")
     }
 }
 
-// The slot of the passed cases of a group; that of the failed ones follows.
-fn slot(group: usize) -> usize
-    ensures { result < 31 }
-{
-    group % 16 * 2
+#[derive(Clone, Copy, Debug)]
+struct Line<T> {
+    of: T,
+    count: Count,
 }
 
-// A case passes where what was got is what was expected.
-pub fn note(score: &mut [u32; 32], group: usize, case: u64, expected: u64, got: u64) {
-    if expected == got {
-        count(score, slot(group));
-        count(score, slot(TOTAL));
-        return;
+impl<T: fmt::Display> fmt::Display for Line<T> {
+    fn fmt<W: fmt::Write>(&self, f: &mut fmt::Formatter<W>) -> fmt::Result {
+        let of = &self.of;
+        let count = self.count;
+        write!(f, "{of} {count}")
     }
-    print_failure(group, case, expected, got);
-    count(score, slot(group) + 1);
-    count(score, slot(TOTAL) + 1);
 }
 
-fn wide(n: u32) -> u64 {
-    n as u64
+// A case that failed, with what was expected and got as numbers.
+#[derive(Clone, Copy, Debug, Default, PartialEq, Eq)]
+pub struct Failure {
+    pub group: Group,
+    pub case: u64,
+    pub expected: u64,
+    pub got: u64,
 }
 
-fn print_line(score: &[u32; 32], group: usize) {
-    let at = slot(group);
-    print_name(group);
-    print(b" passed ");
-    print_number(wide(score[at]));
-    print(b" failed ");
-    print_number(wide(score[at + 1]));
-    print(b"\n");
+impl fmt::Display for Failure {
+    fn fmt<W: fmt::Write>(&self, f: &mut fmt::Formatter<W>) -> fmt::Result {
+        let group = self.group;
+        let case = self.case;
+        let expected = self.expected;
+        let got = self.got;
+        write!(f, "{group} case {case} expected {expected} got {got}")
+    }
 }
 
-pub fn print_score(score: &[u32; 32]) {
-    print_line(score, EXAMPLES);
-    print_line(score, LIMITS);
-    print_line(score, REFUSALS);
-    print_line(score, ROUNDS);
-    print_line(score, BUFFERS);
-    print_line(score, VERDICTS);
-    print_line(score, QUESTIONS);
-    print_line(score, DOCUMENTS);
-    print_line(score, EVIDENCE);
-    print_line(score, TOTAL);
+// How many failures are kept to be printed; later ones are counted only.
+const KEPT: usize = 64;
+
+#[derive(Drop)]
+pub struct Score {
+    counts: [Count; GROUPS.len()],
+    failures: ArrayVec<Failure, KEPT>,
+}
+
+impl Score {
+    pub fn new() -> Self {
+        Score {
+            counts: [Count::default(); GROUPS.len()],
+            failures: ArrayVec::new(),
+        }
+    }
+
+    pub fn case(&mut self, number: u64) -> Case<'_> {
+        Case::new(self, number)
+    }
+
+    pub fn pass(&mut self, group: Group) {
+        self.counts[group as usize].add(true);
+    }
+
+    pub fn fail(&mut self, failure: Failure) {
+        self.counts[failure.group as usize].add(false);
+        let _kept = self.failures.try_push(failure);
+    }
+
+    fn total(&self) -> Count {
+        self.counts
+            .iter()
+            .fold(Count::default(), |all, &count| all.plus(count))
+    }
+
+    fn print_failures(&self) {
+        for failure in self.failures.as_slice() {
+            print(failure);
+        }
+    }
+
+    fn print_counts(&self) {
+        for (group, count) in GROUPS.iter().zip(&self.counts) {
+            print(&Line {
+                of: *group,
+                count: *count,
+            });
+        }
+    }
+
+    // First the failures, then how many cases of each group and of all passed and failed.
+    pub fn print(&self) {
+        self.print_failures();
+        self.print_counts();
+        print(&Line {
+            of: "total",
+            count: self.total(),
+        });
+    }
 }

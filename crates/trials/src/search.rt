@@ -8,114 +8,85 @@
 // its height, and every set of these comes from a finite tree. Child paths have greater numbers, so the last path goes first;
 // what stands in a slot past the paths is never looked at.
 use crate::families::{breaking, holding_all, with_any, with_one, with_path};
-use crate::paths::{common, parent_of, prefixes};
-use crate::small::{SmallSet, rule_of};
+use crate::paths::{context_of, prefixes};
+use crate::rule::Rule;
+use crate::small::{SLOTS, SmallSet};
 
-// For each path: the sets that nodes on it could have by their subtrees alone, and those that break no rule there besides.
-#[derive(Clone, Copy)]
-pub struct Families {
-    pub free: [u64; 8],
-    pub obeying: [u64; 8],
+// The sets that nodes on a path could have by their subtrees alone, and those that break no rule there besides.
+#[derive(Clone, Copy, Debug)]
+pub struct Subtrees {
+    free: u64,
+    obeying: u64,
 }
+
+pub type Families = [Subtrees; SLOTS];
 
 // The sets that break a rule whose context is c.
-pub fn broken_at(set: SmallSet, c: usize) -> u64 {
+pub fn broken_at(set: &SmallSet, c: usize) -> u64 {
     let top = prefixes(set, c);
-    let mut all = 0u64;
-    for r in 0..8usize {
-        let rule = rule_of(set, r);
-        if r < set.rules {
-            if common(set, rule.left, rule.right) == top {
-                all |= breaking(rule.kind, rule.left, rule.right);
-            }
-        }
-    }
-    all
+    set.rules()
+        .iter()
+        .filter(|rule| context_of(set, rule) == top)
+        .fold(0, |all, rule| all | breaking(rule))
 }
 
-fn is_child(set: SmallSet, k: usize, c: usize) -> bool {
-    if k <= c {
-        return false;
-    }
-    if set.paths <= k {
-        return false;
-    }
-    parent_of(set, k) == c
+fn is_child(set: &SmallSet, k: usize, c: usize) -> bool {
+    c < k && k < set.paths && set.parent_of(k) == c
 }
 
 // {c} united with any obeying subtrees on child paths of c.
-fn free_at(set: SmallSet, obeying: &[u64; 8], c: usize) -> u64 {
-    let mut all = with_path(1, c);
-    for k in 0..8usize {
-        if is_child(set, k, c) {
-            all = with_any(all, obeying[k]);
-        }
-    }
-    all
+fn free_at(set: &SmallSet, families: &Families, c: usize) -> u64 {
+    families
+        .iter()
+        .enumerate()
+        .filter(|&(k, _)| is_child(set, k, c))
+        .fold(with_path(1, c), |all, (_, below)| {
+            with_any(all, below.obeying)
+        })
 }
 
-pub fn families_of(set: SmallSet) -> Families {
-    let mut free = [0u64; 8];
-    let mut obeying = [0u64; 8];
-    for i in 0..8usize {
-        let c = 7 - i;
-        let all = free_at(set, &obeying, c);
-        free[c] = all;
-        obeying[c] = all & !broken_at(set, c);
+pub fn families_of(set: &SmallSet) -> Families {
+    let mut families = [Subtrees {
+        free: 0,
+        obeying: 0,
+    }; SLOTS];
+    for c in (0..SLOTS).rev() {
+        let free = free_at(set, &families, c);
+        let obeying = free & !broken_at(set, c);
+        families[c] = Subtrees { free, obeying };
     }
-    Families { free, obeying }
+    families
 }
 
 // Whether some document obeys the rules and holds the required paths.
-pub fn some_document(set: SmallSet, families: Families) -> bool {
-    let obeying = families.obeying;
-    holding_all(obeying[0], set.required) != 0
+pub fn some_document(set: &SmallSet, families: &Families) -> bool {
+    holding_all(families[0].obeying, set.required) != 0
 }
 
 // The free sets at c of which one subtree on a child path is in the partial family of that path.
-fn partial_at(set: SmallSet, free: u64, partial: &[u64; 8], c: usize) -> u64 {
-    let mut all = 0u64;
-    for k in 0..8usize {
-        if is_child(set, k, c) {
-            all |= with_one(free, partial[k]);
-        }
-    }
-    all
+fn partial_at(set: &SmallSet, free: u64, partial: &[u64; SLOTS], c: usize) -> u64 {
+    partial
+        .iter()
+        .enumerate()
+        .filter(|&(k, _)| is_child(set, k, c))
+        .fold(0, |all, (_, &below)| all | with_one(free, below))
 }
 
-// The sets of the obeying subtrees on c in which some node on the question's context breaks the question, with those of the
-// child paths known. No node on the context stands below another.
-fn countering_at(
-    set: SmallSet,
-    families: Families,
-    partial: &[u64; 8],
-    c: usize,
-    top: u64,
-    broken: u64,
-) -> u64 {
-    let free = families.free;
-    let obeying = families.obeying;
-    let at = c % 8;
-    if prefixes(set, c) == top {
-        return obeying[at] & broken;
-    }
-    partial_at(set, free[at], partial, c) & obeying[at]
-}
-
-// Whether some document obeys the rules and breaks the question.
-pub fn some_counter(
-    set: SmallSet,
-    families: Families,
-    kind: u8,
-    left: usize,
-    right: usize,
-) -> bool {
-    let top = common(set, left, right);
-    let broken = breaking(kind, left, right);
-    let mut partial = [0u64; 8];
-    for i in 0..8usize {
-        let c = 7 - i;
-        partial[c] = countering_at(set, families, &partial, c, top, broken);
+// Whether some document obeys the rules and breaks the question. Slot c: the sets of the obeying subtrees on c in which some
+// node on the question's context breaks the question, from those of the child paths. No node on the context stands below
+// another.
+pub fn some_counter(set: &SmallSet, families: &Families, question: &Rule) -> bool {
+    let top = context_of(set, question);
+    let broken = breaking(question);
+    let mut partial = [0; SLOTS];
+    for c in (0..SLOTS).rev() {
+        let Subtrees { free, obeying } = families[c];
+        let breaking = if prefixes(set, c) == top {
+            broken
+        } else {
+            partial_at(set, free, &partial, c)
+        };
+        partial[c] = obeying & breaking;
     }
     partial[0] != 0
 }

@@ -1,175 +1,168 @@
 // Random sets tried: the verdict and every question against the search, every document checked, every evidence replayed.
-use crate::calls::{CONSISTENT, Call, DENIED, INCONSISTENT, ROOM, YES, ask_again, run};
-use crate::handed_back::{BROKEN, OBEYS, by_rules, judged};
+use crate::buffers::ask_again;
+use crate::calls::{decide, finding, write};
+use crate::case::Case;
+use crate::group::Group;
 use crate::judge::{broken_parts, lacking};
-use crate::least::deaths_of;
-use crate::marks::mark;
-use crate::random::random_set;
+use crate::marks::marked;
+use crate::outcome::{Answer, Finding, Outcome, Refused, answer_of, length_of};
 use crate::replay::{replay_inconsistent, replay_yes};
 use crate::rounds::there_and_back;
-use crate::score::{DOCUMENTS, EVIDENCE, QUESTIONS, VERDICTS, note};
-use crate::search::{Families, families_of, some_counter, some_document};
-use crate::small::{SmallSet, rules_of, with_one_rule};
+use crate::rule::{KINDS, Rule};
+use crate::score::Score;
+use crate::search::{some_counter, some_document};
+use crate::small::{SLOTS, SmallSet};
+use crate::subject::Subject;
 use files::rules::Rules;
 
 const SETS: u64 = 6000;
 
-// The document or the evidence of a verdict.
-fn try_handed(
-    score: &mut [u32; 32],
-    case: u64,
-    set: SmallSet,
-    rules: Rules,
-    deaths: [u8; 8],
-    sound: bool,
-    s: &[u8],
-) {
-    if sound {
-        note(score, DOCUMENTS, case, OBEYS, judged(rules, s));
-        note(score, DOCUMENTS, case, 0, broken_parts(set, s));
-        note(score, DOCUMENTS, case, 0, lacking(set, s));
-        return;
-    }
-    let end = replay_inconsistent(set, s, deaths);
-    note(score, EVIDENCE, case, s.len() as u64, end as u64);
+// What is found of a document by the rules of a set; required paths have no part in it.
+fn finding_by_rules(set: &SmallSet, document: &[u8]) -> Result<Finding, Refused> {
+    finding(&set.without_required().table(), document)
 }
 
-fn try_verdict(
-    score: &mut [u32; 32],
-    case: u64,
-    set: SmallSet,
-    rules: Rules,
-    deaths: [u8; 8],
-    sound: bool,
-) {
-    let mut room = [0u8; ROOM];
-    mark(&mut room);
-    let got = run(rules, Call::Decide, &mut room);
-    let expected = if sound { CONSISTENT } else { INCONSISTENT };
-    note(score, VERDICTS, case, expected, got.answer);
-    let n = got.length;
-    if n <= ROOM {
-        try_handed(score, case, set, rules, deaths, sound, &room[..n]);
-    }
-    ask_again(score, case, rules, Call::Decide, got, &room);
+fn try_witness(case: &mut Case, subject: &Subject, document: &[u8]) {
+    let set = &subject.set;
+    let found = finding(&subject.table, document);
+    case.note(Group::Documents, Ok(Finding::Obeys), found);
+    case.note(Group::Documents, Some(0), broken_parts(set, document));
+    case.note(Group::Documents, Some(0), lacking(set, document));
 }
 
-// A counter-document obeys the rules and breaks the question, which is a set of one rule.
-fn try_counter(score: &mut [u32; 32], case: u64, set: SmallSet, question: SmallSet, s: &[u8]) {
-    note(score, DOCUMENTS, case, OBEYS, by_rules(set, s));
-    note(score, DOCUMENTS, case, BROKEN, by_rules(question, s));
-    note(score, DOCUMENTS, case, 0, broken_parts(set, s));
-    let broken = if broken_parts(question, s) == 0 {
-        OBEYS
+fn try_conflict(case: &mut Case, subject: &Subject, evidence: &[u8]) {
+    let end = replay_inconsistent(&subject.set, &subject.deaths, evidence);
+    case.note(Group::Evidence, Some(evidence.len()), end);
+}
+
+// What a call answers, what its bytes say, and the call asked again.
+fn try_call<C: Fn(&mut [u8]) -> Outcome, F: FnOnce(&mut Case, &[u8])>(
+    case: &mut Case,
+    group: Group,
+    expected: Answer,
+    call: C,
+    try_bytes: F,
+)
+    requires call { C.IsAlwaysCallable call }
+    requires bytes { F.IsAlwaysCallable try_bytes }
+{
+    let mut room = marked();
+    let got = call(&mut room);
+    case.note(group, Ok(expected), answer_of(got));
+    if let Some(bytes) = room.get(..length_of(got)) {
+        try_bytes(case, bytes);
+    }
+    ask_again(case, &call, got, &room);
+}
+
+fn try_verdict(case: &mut Case, subject: &Subject) {
+    let is_sound = some_document(&subject.set, &subject.families);
+    let expected = if is_sound {
+        Answer::Consistent
     } else {
-        BROKEN
+        Answer::Inconsistent
     };
-    note(score, DOCUMENTS, case, BROKEN, broken);
+    try_call(
+        case,
+        Group::Verdicts,
+        expected,
+        |out| decide(&subject.table, out),
+        |case, bytes| {
+            if is_sound {
+                try_witness(case, subject, bytes);
+            } else {
+                try_conflict(case, subject, bytes);
+            }
+        },
+    );
 }
 
-// The counter-document or the evidence of a question's answer.
-fn try_reply(
-    score: &mut [u32; 32],
-    case: u64,
-    set: SmallSet,
-    deaths: [u8; 8],
-    kind: u8,
-    p: usize,
-    q: usize,
-    countered: bool,
-    s: &[u8],
-) {
-    if countered {
-        let question = with_one_rule(set, kind as usize, p, q);
-        try_counter(score, case, set, question, s);
-        return;
-    }
-    let end = replay_yes(set, s, deaths, kind, p, q);
-    note(score, EVIDENCE, case, s.len() as u64, end as u64);
+// A counter-document obeys the rules and breaks the question, which makes a set of one rule.
+fn try_counter(case: &mut Case, set: &SmallSet, question: Rule, document: &[u8]) {
+    let asked = set.with_one_rule(question);
+    let obeying = finding_by_rules(set, document);
+    case.note(Group::Documents, Ok(Finding::Obeys), obeying);
+    let breaking = finding_by_rules(&asked, document);
+    case.note(Group::Documents, Ok(Finding::Broken), breaking);
+    case.note(Group::Documents, Some(0), broken_parts(set, document));
+    let judged = broken_parts(&asked, document).map(|parts| {
+        if parts == 0 {
+            Finding::Obeys
+        } else {
+            Finding::Broken
+        }
+    });
+    case.note(Group::Documents, Some(Finding::Broken), judged);
 }
 
-fn try_question(
-    score: &mut [u32; 32],
-    case: u64,
-    set: SmallSet,
-    rules: Rules,
-    deaths: [u8; 8],
-    kind: u8,
-    p: usize,
-    q: usize,
-    countered: bool,
-) {
-    let mut room = [0u8; ROOM];
-    mark(&mut room);
-    let call = Call::Ask(kind as usize, p, q);
-    let got = run(rules, call, &mut room);
-    let expected = if countered { DENIED } else { YES };
-    note(score, QUESTIONS, case, expected, got.answer);
-    let n = got.length;
-    if n <= ROOM {
-        try_reply(score, case, set, deaths, kind, p, q, countered, &room[..n]);
-    }
-    ask_again(score, case, rules, call, got, &room);
+fn try_evidence(case: &mut Case, subject: &Subject, question: Rule, evidence: &[u8]) {
+    let end = replay_yes(&subject.set, &subject.deaths, question, evidence);
+    case.note(Group::Evidence, Some(evidence.len()), end);
+}
+
+fn try_question(case: &mut Case, subject: &Subject, question: Rule) {
+    let is_countered = some_counter(&subject.set, &subject.families, &question);
+    let expected = if is_countered {
+        Answer::No
+    } else {
+        Answer::Yes
+    };
+    try_call(
+        case,
+        Group::Questions,
+        expected,
+        |out| question.ask(&subject.table, out),
+        |case, bytes| {
+            if is_countered {
+                try_counter(case, &subject.set, question, bytes);
+            } else {
+                try_evidence(case, subject, question, bytes);
+            }
+        },
+    );
 }
 
 // The rule file of a set, with buffers of other lengths too.
-fn try_written(score: &mut [u32; 32], case: u64, rules: Rules) {
-    let mut room = [0u8; ROOM];
-    mark(&mut room);
-    let got = run(rules, Call::Write, &mut room);
-    ask_again(score, case, rules, Call::Write, got, &room);
+fn try_written(case: &mut Case, rules: &Rules) {
+    let call = |out: &mut [u8]| write(rules, out);
+    let mut room = marked();
+    let got = call(&mut room);
+    ask_again(case, &call, got, &room);
 }
 
-// Question i of 192: three kinds, eight left and eight right paths; those of paths that the set lacks are left out.
-fn try_numbered(
-    score: &mut [u32; 32],
-    case: u64,
-    set: SmallSet,
-    rules: Rules,
-    deaths: [u8; 8],
-    families: Families,
-    i: usize,
-) {
-    let kind = (1 + i / 64 % 3) as u8;
-    let p = i / 8 % 8;
-    let q = i % 8;
-    let number = case % 1000000000 + (i % 1000) as u64;
-    if p < set.paths {
-        if q < set.paths {
-            let countered = some_counter(set, families, kind, p, q);
-            try_question(score, number, set, rules, deaths, kind, p, q, countered);
+// Three kinds, eight left and eight right paths.
+const QUESTIONS: usize = KINDS.len() * SLOTS * SLOTS;
+
+fn question_numbered(i: usize) -> Rule {
+    Rule {
+        kind: KINDS[i / (SLOTS * SLOTS) % KINDS.len()],
+        left: i / SLOTS % SLOTS,
+        right: i % SLOTS,
+    }
+}
+
+// Every question of every kind; those of paths that the set lacks are left out.
+fn try_questions(score: &mut Score, first: u64, subject: &Subject) {
+    for i in 0..QUESTIONS {
+        let question = question_numbered(i);
+        if question.left < subject.set.paths && question.right < subject.set.paths {
+            let mut case = score.case(first.saturating_add(i as u64));
+            try_question(&mut case, subject, question);
         }
     }
 }
 
-// Every question of every kind.
-fn try_questions(
-    score: &mut [u32; 32],
-    case: u64,
-    set: SmallSet,
-    rules: Rules,
-    deaths: [u8; 8],
-    families: Families,
-) {
-    for i in 0..192usize {
-        try_numbered(score, case, set, rules, deaths, families, i);
-    }
+fn try_set(score: &mut Score, number: u64) {
+    let subject = Subject::numbered(number);
+    let first = number % 1000000 * 1000;
+    let mut case = score.case(first);
+    there_and_back(&mut case, &subject.table);
+    try_written(&mut case, &subject.table);
+    try_verdict(&mut case, &subject);
+    try_questions(score, first, &subject);
 }
 
-fn try_set(score: &mut [u32; 32], number: u64) {
-    let set = random_set(number);
-    let rules = rules_of(set);
-    let case = number % 1000000 * 1000;
-    let families = families_of(set);
-    let deaths = deaths_of(set);
-    there_and_back(score, case, rules);
-    try_written(score, case, rules);
-    let sound = some_document(set, families);
-    try_verdict(score, case, set, rules, deaths, sound);
-    try_questions(score, case, set, rules, deaths, families);
-}
-
-pub fn try_sets(score: &mut [u32; 32]) {
+pub fn try_sets(score: &mut Score) {
     for number in 0..SETS {
         try_set(score, number);
     }

@@ -1,20 +1,23 @@
 -- `printing::print_verdict` meets its contract.
+use mathlib.Core.Path.{ap}
+use borrow.Author.Rules.{rules}
 use native.Mathlib.Omega.{arith}
+use Rattle.reasoning.specs.Verdict.{verdict}
 use Rattle.printing.proofs.Verdicts.{taken_all, never_refused, document_within, document_printed, evidence_within, evidence_printed}
 use Rattle.printing.proofs.print_verdict.Goals as goal
 
 pub slice_bounds-lay-end : goal.slice_bounds-lay-end
-slice_bounds-lay-end c = taken_all _ _ (document_within _ (omega (arith, c.well_formed)) _ _ _ c.requires _ c.in-Consistent.is)
+slice_bounds-lay-end c = taken_all _ _ (document_within _ (omega (arith, c.well_formed)) _ _ _ c.requires c.in-Ok-Consistent.n (search rules))
 
-pub slice_bounds-lay-end-in-Inconsistent : goal.slice_bounds-lay-end-in-Inconsistent
-slice_bounds-lay-end-in-Inconsistent c = taken_all _ _ (evidence_within _ (omega (arith, c.well_formed)) _ _ _ c.requires _ c.in-Inconsistent.is)
+pub slice_bounds-lay-end-in-Ok-Inconsistent : goal.slice_bounds-lay-end-in-Ok-Inconsistent
+slice_bounds-lay-end-in-Ok-Inconsistent c = taken_all _ _ (evidence_within _ (omega (arith, c.well_formed)) _ _ _ c.requires c.in-Ok-Inconsistent.n (search rules))
 
-pub returns-in-Consistent : goal.returns-in-Consistent
-returns-in-Consistent c = document_printed _ (omega (arith, c.well_formed)) _ _ _ c.requires _ c.in-Consistent.is
+pub returns-in-Ok-Consistent : goal.returns-in-Ok-Consistent
+returns-in-Ok-Consistent c = document_printed _ (omega (arith, c.well_formed)) _ _ _ c.requires c.in-Ok-Consistent.n (search rules)
     (λ i. omega (arith, c.type_inv.document i)) _ _ c.lay.ensures
 
-pub returns-in-Inconsistent : goal.returns-in-Inconsistent
-returns-in-Inconsistent c = evidence_printed _ (omega (arith, c.well_formed)) _ _ _ c.requires _ c.in-Inconsistent.is _ _ c.lay-in-Inconsistent.ensures
+pub returns-in-Ok-Inconsistent : goal.returns-in-Ok-Inconsistent
+returns-in-Ok-Inconsistent c = evidence_printed _ (omega (arith, c.well_formed)) _ _ _ c.requires c.in-Ok-Inconsistent.n (search rules) _ _ c.lay-in-Ok-Inconsistent.ensures
 
-pub returns-in-Refused : goal.returns-in-Refused
-returns-in-Refused c = absurd (never_refused _ (omega (arith, c.well_formed)) _ _ _ c.requires _ _ c.in-Refused.is)
+pub returns-in-Err : goal.returns-in-Err
+returns-in-Err c = absurd (never_refused _ (omega (arith, c.well_formed)) _ _ _ c.requires _ _ (ap verdict c.in-Err.is))

@@ -1,9 +1,6 @@
--- `documents::document::read_kids` meets its contract.
+-- The children so far are read and marked.
 use Rattle.documents.proofs.PartReader.{KidsSoFar}
 use Rattle.documents.proofs.document.read_kids.Given as goal
 
-abbrev pub invariant-loop-left : goal.invariant-loop-left
-invariant-loop-left l = KidsSoFar l.s l.at l.parts l.n l.p l.many l.initial.namers l.namers l.last l.next l.left
-
-abbrev pub decreases-loop-left : goal.decreases-loop-left
-decreases-loop-left l = l.left
+abbrev pub invariant-loop : goal.invariant-loop
+invariant-loop l = KidsSoFar l.fn.reader l.reader l.parts l.n l.path l.many l.counter l.fn.namers l.namers l.last

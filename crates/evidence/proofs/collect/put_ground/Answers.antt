@@ -1,25 +1,7 @@
 -- `evidence::collect::put_ground` meets its contract.
 use borrow.Author.Rules.{rules}
-use Rattle.evidence.proofs.Collecting.{ground_laws, direct_range, dead_range, pair_range}
+use Rattle.evidence.proofs.Collecting.{given_laws}
 use Rattle.evidence.proofs.collect.put_ground.Goals as goal
 
-pub put_direct-requires : goal.put_direct-requires
-put_direct-requires c = direct_range _ _ c.requires.0 c.requires.1 c.in-Direct.is
-
-pub put_dead-requires : goal.put_dead-requires
-put_dead-requires c = dead_range _ _ c.requires.0 c.requires.1 c.in-Dead.is
-
-pub put_pair-requires : goal.put_pair-requires
-put_pair-requires c = pair_range _ _ c.requires.0 c.requires.1 c.in-Pair.is
-
-pub returns-in-None : goal.returns-in-None
-returns-in-None c = search (rules, ground_laws)
-
-pub returns-in-Direct : goal.returns-in-Direct
-returns-in-Direct c = search (rules, ground_laws)
-
-pub returns-in-Dead : goal.returns-in-Dead
-returns-in-Dead c = search (rules, ground_laws)
-
-pub returns-in-Pair : goal.returns-in-Pair
-returns-in-Pair c = search (rules, ground_laws)
+pub returns-in_default : goal.returns-in_default
+returns-in_default c = search (rules, given_laws)

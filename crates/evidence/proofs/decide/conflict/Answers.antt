@@ -1,17 +1,13 @@
 -- `evidence::decide::conflict` meets its contract.
+use mathlib.Core.Path.{◌∙◌, ap}
 use borrow.Author.Rules.{rules}
-use Rattle.evidence.proofs.Deciding.{conflict_laws}
-use Rattle.reachable.proofs.Growing.{least_small}
+use Rattle.evidence.specs.Choices.{dead_needed}
+use Rattle.evidence.specs.Grounds.{or_else, dead_lowest, conflict_ground}
+use Rattle.evidence.proofs.Deciding.{or_met}
 use Rattle.evidence.proofs.decide.conflict.Goals as goal
 
-pub returns-then-given : goal.returns-then-given
-returns-then-given c = search (rules, conflict_laws, least_small)
-
-pub returns-then-d-eq0 : goal.returns-then-d-eq0
-returns-then-d-eq0 c = search (rules, conflict_laws, least_small)
-
-pub dead-requires : goal.dead-requires
-dead-requires c = search (rules, conflict_laws, least_small)
-
 pub returns : goal.returns
-returns c = search (rules, conflict_laws, least_small)
+unfolding conflict_ground
+returns c =
+    let d = dead_lowest c.args.sheet.now c.args.clash (dead_needed c.args.sheet.now c.args.clash c.args.needed) in
+    or_met _ d _ _ c.or_else.ensures (λ k. search rules) ∙ ap (λ g. or_else g d) c.root_pair.ensures

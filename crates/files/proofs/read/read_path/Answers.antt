@@ -1,19 +1,71 @@
--- `files::read::read_path` meets its contract.
-use borrow.Author.Rules.{rules}
-use Rattle.files.proofs.Reader.{path_laws}
+-- `files::read::read_path` meets its contract: a parent, then a label.
+use Rattle.std.proofs.Common.{rules, refl, sym, ◌∙◌, ◌≡◌, ◌+◌, ◌-◌, ◌<◌, length, get_or, arith}
+use Rattle.std.proofs.lemmas.Result.{err_from_is_err_and}
+use Rattle.files.specs.Reading.{PathIs}
+use Rattle.files.specs.Refusals.{test_number}
+use Rattle.files.specs.RuleFile.{one_path, path_label, label_test, parent_test, depths}
+use Rattle.files.specs.Rules.{paths_from}
+use Rattle.files.proofs.PathTests.{parent_padded, paths_own, passes_below, passes_shallow}
+use Rattle.files.proofs.Readers.{wants_out, wants_then, reads_done, read_passes}
 use Rattle.files.proofs.read.read_path.Goals as goal
 
-pub returns-then-why-gt0 : goal.returns-then-why-gt0
-returns-then-why-gt0 c = search (rules, path_laws)
+pub returns-in_err-parent : goal.returns-in_err-parent
+unfolding one_path
+returns-in_err-parent c =
+    let ps = paths_from c.args.paths.now.parent c.args.paths.now.label 1 (c.args.own - 1) in
+    let p = err_from_is_err_and c.from_residual.result c.from_residual.ensures.1 in
+    let reads =
+    c.in_err-parent.ensures (parent_test (depths ps) (1 + length ps))
+    (λ n r h t.
+    let said : test_number r ≡ parent_test c.args.paths.now.depth c.args.own n = search rules in
+    said ∙ sym (parent_padded ps _ _ n c.requires.2 (paths_own _ _ _ c.requires.0))) in
+    rw (p.1, p.2) (wants_out (PathIs c.args.paths.now.depth) _ _ _ _ _ reads)
 
-pub overflow_add-at : goal.overflow_add-at
-overflow_add-at c = search (rules, path_laws)
+pub returns-in_err-label : goal.returns-in_err-label
+unfolding one_path path_label
+returns-in_err-label c =
+    let ps = paths_from c.args.paths.now.parent c.args.paths.now.label 1 (c.args.own - 1) in
+    let p = err_from_is_err_and c.from_residual-in_err-label.result c.from_residual-in_err-label.ensures.1 in
+    let parent =
+    c.in_ok-parent.ensures (parent_test (depths ps) (1 + length ps))
+    (λ n r h t.
+    let said : test_number r ≡ parent_test c.args.paths.now.depth c.args.own n = search rules in
+    said ∙ sym (parent_padded ps _ _ n c.requires.2 (paths_own _ _ _ c.requires.0))) in
+    let reads = c.in_err-label.ensures (label_test ps c.in_ok-parent.parent) (λ n r h t. search rules) in
+    rw (p.1, p.2)
+    (wants_then (PathIs c.args.paths.now.depth) _ _ _ _ _ _ _ parent (wants_out (PathIs c.args.paths.now.depth) _ _ _ _ _ reads))
 
-pub read_label-requires : goal.read_label-requires
-read_label-requires c = search (rules, path_laws)
+pub overflow_cast-result : goal.overflow_cast-result
+overflow_cast-result c =
+    let passes : parent_test c.args.paths.now.depth c.args.own c.in_ok-parent.parent ≡ 0 =
+    read_passes _ _ _ _ (c.in_ok-parent.ensures (parent_test c.args.paths.now.depth c.args.own) (λ n r h t. search rules)) in
+    let below : c.in_ok-parent.parent < c.args.own = passes_below _ _ _ passes in
+    search rules
 
-pub returns-in-Refused : goal.returns-in-Refused
-returns-in-Refused c = search (rules, path_laws)
+pub bounds-paths-parent : goal.bounds-paths-parent
+bounds-paths-parent c =
+    let passes : parent_test c.args.paths.now.depth c.args.own c.in_ok-parent.parent ≡ 0 =
+    read_passes _ _ _ _ (c.in_ok-parent.ensures (parent_test c.args.paths.now.depth c.args.own) (λ n r h t. search rules)) in
+    let below : c.in_ok-parent.parent < c.args.own = passes_below _ _ _ passes in
+    search rules
 
-pub returns-else-why-gt0 : goal.returns-else-why-gt0
-returns-else-why-gt0 c = search (rules, path_laws)
+pub overflow_add-result : goal.overflow_add-result
+overflow_add-result c =
+    let passes : parent_test c.args.paths.now.depth c.args.own c.in_ok-parent.parent ≡ 0 =
+    read_passes _ _ _ _ (c.in_ok-parent.ensures (parent_test c.args.paths.now.depth c.args.own) (λ n r h t. search rules)) in
+    let shallow : get_or c.args.paths.now.depth c.in_ok-parent.parent 0 < 8 = passes_shallow _ _ _ passes in
+    search rules
+
+pub returns : goal.returns
+unfolding one_path path_label
+returns c =
+    let ps = paths_from c.args.paths.now.parent c.args.paths.now.label 1 (c.args.own - 1) in
+    let parent =
+    c.in_ok-parent.ensures (parent_test (depths ps) (1 + length ps))
+    (λ n r h t.
+    let said : test_number r ≡ parent_test c.args.paths.now.depth c.args.own n = search rules in
+    said ∙ sym (parent_padded ps _ _ n c.requires.2 (paths_own _ _ _ c.requires.0))) in
+    let label = c.in_ok-label.ensures (label_test ps c.in_ok-parent.parent) (λ n r h t. search rules) in
+    wants_then (PathIs c.args.paths.now.depth) _ _ _ _ _ _ _ parent
+    (wants_then (PathIs c.args.paths.now.depth) _ _ _ _ _ _ _ label
+    (reads_done (PathIs c.args.paths.now.depth) _ _ _ (record { parent = refl; label = refl; depth = omega arith })))

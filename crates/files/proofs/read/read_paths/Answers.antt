@@ -1,49 +1,26 @@
 -- `files::read::read_paths` meets its contract.
-use borrow.Author.Rules.{rules}
-use Rattle.files.proofs.ReaderPaths.{paths_laws}
+use Rattle.std.proofs.Common.{rules, refl, ◌<◌, ◌≤◌}
+use Rattle.std.proofs.lemmas.Result.{err_from_is_err_and}
+use Rattle.files.proofs.PathsRead.{paths_laws, paths_refused, paths_end}
 use Rattle.files.proofs.read.read_paths.Goals as goal
 
-pub bounds-label-0 : goal.bounds-label-0
-bounds-label-0 c = search (rules, paths_laws)
-
-pub bounds-depth-0 : goal.bounds-depth-0
-bounds-depth-0 c = search (rules, paths_laws)
-
-pub loop-x-init : goal.loop-x-init
-loop-x-init c = search (rules, paths_laws)
+pub loop-own-init : goal.loop-own-init
+loop-own-init c = search (rules, paths_laws)
 
 pub read_path-requires : goal.read_path-requires
 read_path-requires c = search (rules, paths_laws)
 
-pub enum_known-why : goal.enum_known-why
-enum_known-why c = search (rules, paths_laws)
+pub returns-in_err-path : goal.returns-in_err-path
+returns-in_err-path c =
+    let p = err_from_is_err_and c.from_residual.result c.from_residual.ensures.1 in
+    let left : c.loop-own.own < c.args.count = search rules in
+    rw (p.1, p.2) (paths_refused _ _ _ _ _ _ _ _ c.loop-own.invariant left _ _ c.in_err-path.ensures)
 
-pub returns-in-Refused : goal.returns-in-Refused
-returns-in-Refused c = search (rules, paths_laws)
-
-pub enum_known-p : goal.enum_known-p
-enum_known-p c = search (rules, paths_laws)
-
-pub bounds-parent-x : goal.bounds-parent-x
-bounds-parent-x c = search (rules, paths_laws)
-
-pub offset_bounds-label-x : goal.offset_bounds-label-x
-offset_bounds-label-x c = search (rules, paths_laws)
-
-pub bounds-label-x : goal.bounds-label-x
-bounds-label-x c = search (rules, paths_laws)
-
-pub bounds-depth-x : goal.bounds-depth-x
-bounds-depth-x c = search (rules, paths_laws)
-
-pub overflow_add-x : goal.overflow_add-x
-overflow_add-x c = search (rules, paths_laws)
-
-pub loop-x-smaller : goal.loop-x-smaller
-loop-x-smaller c = search (rules, paths_laws)
-
-pub loop-x-preserved : goal.loop-x-preserved
-loop-x-preserved c = search (rules, paths_laws)
+pub loop-own-preserved : goal.loop-own-preserved
+loop-own-preserved c = search (rules, paths_laws)
 
 pub returns : goal.returns
-returns c = search (rules, paths_laws)
+returns c =
+    let all : c.args.count ≤ c.loop-own.own = search rules in
+    let most : c.loop-own.own ≤ c.args.count = search rules in
+    paths_end _ _ _ _ _ _ _ _ c.loop-own.invariant c.loop-own.paths refl refl c.requires.0 all most

@@ -1,10 +1,6 @@
--- `files::read::read_paths` meets its contract.
-use Prim.Native.Nat.{◌-◌}
-use Rattle.files.proofs.ReaderPaths.{PathsSoFar}
+-- The paths so far are in the arrays.
+use Rattle.files.proofs.PathsRead.{PathsSoFar}
 use Rattle.files.proofs.read.read_paths.Given as goal
 
-abbrev pub invariant-loop-x : goal.invariant-loop-x
-invariant-loop-x l = PathsSoFar l.s l.at l.count l.root l.parent l.label l.depth l.next l.x
-
-abbrev pub decreases-loop-x : goal.decreases-loop-x
-decreases-loop-x l = l.count - l.x
+abbrev pub invariant-loop-own : goal.invariant-loop-own
+invariant-loop-own l = PathsSoFar l.fn.reader l.reader l.count l.root l.paths.parent l.paths.label l.paths.depth l.own

@@ -1,9 +1,6 @@
--- `files::read::read_required` meets its contract.
-use Rattle.files.proofs.ReaderRules.{RequiredSoFar}
+-- The required paths so far are in the set.
+use Rattle.files.proofs.RulesRead.{RequiredSoFar}
 use Rattle.files.proofs.read.read_required.Given as goal
 
-abbrev pub invariant-loop-left : goal.invariant-loop-left
-invariant-loop-left l = RequiredSoFar l.s l.at l.count l.many l.set l.last l.next l.left
-
-abbrev pub decreases-loop-left : goal.decreases-loop-left
-decreases-loop-left l = l.left
+abbrev pub invariant-loop : goal.invariant-loop
+invariant-loop l = RequiredSoFar l.fn.reader l.reader l.count l.many l.counter l.required l.last

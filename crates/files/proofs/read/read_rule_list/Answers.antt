@@ -1,40 +1,24 @@
 -- `files::read::read_rule_list` meets its contract.
-use borrow.Author.Rules.{rules}
-use Rattle.files.proofs.ReaderRules.{rules_laws}
+use Rattle.std.proofs.Common.{rules, ◌<◌, ◌≤◌}
+use Rattle.std.proofs.lemmas.Result.{err_from_is_err_and}
+use Rattle.files.proofs.RulesRead.{rules_start, rules_out, rules_next, rules_end}
 use Rattle.files.proofs.read.read_rule_list.Goals as goal
 
 pub loop-i-init : goal.loop-i-init
-loop-i-init c = search (rules, rules_laws)
+loop-i-init c = rules_start _ _ _
 
-pub read_rule-requires : goal.read_rule-requires
-read_rule-requires c = search (rules, rules_laws)
-
-pub enum_known-number : goal.enum_known-number
-enum_known-number c = search (rules, rules_laws)
-
-pub returns-in-Refused : goal.returns-in-Refused
-returns-in-Refused c = search (rules, rules_laws)
-
-pub enum_known-k : goal.enum_known-k
-enum_known-k c = search (rules, rules_laws)
-
-pub bounds-kind-i : goal.bounds-kind-i
-bounds-kind-i c = search (rules, rules_laws)
-
-pub bounds-left-i : goal.bounds-left-i
-bounds-left-i c = search (rules, rules_laws)
-
-pub bounds-right-i : goal.bounds-right-i
-bounds-right-i c = search (rules, rules_laws)
-
-pub overflow_add-i : goal.overflow_add-i
-overflow_add-i c = search (rules, rules_laws)
-
-pub loop-i-smaller : goal.loop-i-smaller
-loop-i-smaller c = search (rules, rules_laws)
+pub returns-in_err-rule : goal.returns-in_err-rule
+returns-in_err-rule c =
+    let p = err_from_is_err_and c.from_residual.result c.from_residual.ensures.1 in
+    let left : c.loop-i.i < c.args.many = search rules in
+    rw (p.1, p.2) (rules_out _ _ _ _ _ _ c.loop-i.invariant left _ _ c.in_err-rule.ensures)
 
 pub loop-i-preserved : goal.loop-i-preserved
-loop-i-preserved c = search (rules, rules_laws)
+loop-i-preserved c =
+    let left : c.loop-i.i < c.args.many = search rules in
+    rules_next _ _ _ _ _ _ c.loop-i.invariant left _ _ c.requires.1 c.in_ok-rule.ensures
 
 pub returns : goal.returns
-returns c = search (rules, rules_laws)
+returns c =
+    let all : c.args.many ≤ c.loop-i.i = search rules in
+    rules_end _ _ _ _ _ _ c.loop-i.invariant all

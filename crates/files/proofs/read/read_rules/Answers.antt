@@ -1,15 +1,19 @@
 -- `files::read::read_rules` meets its contract.
-use borrow.Author.Rules.{rules}
-use native.Mathlib.Omega.{arith}
-use Rattle.files.proofs.ReaderFile.{file_laws}
+use Rattle.std.proofs.Common.{arith, sym, ap, ◌∙◌}
+use Rattle.files.specs.Refusals.{condition_number}
+use Rattle.files.specs.Reading.{reading_of, read_answer, Accepted, Refused}
 use Rattle.files.proofs.ReadingJoins.{reads_bytes}
 use Rattle.files.proofs.read.read_rules.Goals as goal
 
-pub read_root-requires : goal.read_root-requires
-read_root-requires c = search (rules, file_laws)
+pub returns-in-Ok : goal.returns-in-Ok
+unfolding read_answer reading_of
+returns-in-Ok c =
+    let known = c.in-Ok.ensures in
+    reads_bytes _ _ (λ i. omega (arith, c.type_inv.bytes i)) (ap (λ t. record { answer = Accepted; rules = t }) known.3 ∙ sym (ap reading_of known.2))
 
-pub returns-in-Refused : goal.returns-in-Refused
-returns-in-Refused c = reads_bytes _ _ (λ i. omega (arith, c.type_inv.bytes i)) (search (rules, file_laws))
-
-pub returns-in-Is : goal.returns-in-Is
-returns-in-Is c = reads_bytes _ _ (λ i. omega (arith, c.type_inv.bytes i)) (search (rules, file_laws))
+pub returns-in-Err : goal.returns-in-Err
+unfolding read_answer reading_of
+returns-in-Err c =
+    let known = c.in-Err.ensures in
+    reads_bytes _ _ (λ i. omega (arith, c.type_inv.bytes i))
+    (ap (λ t. record { answer = Refused (condition_number c.in-Err.refusal.condition) c.in-Err.refusal.offset; rules = t }) c.one_path_table.ensures ∙ sym (ap reading_of known))

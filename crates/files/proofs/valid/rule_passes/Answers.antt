@@ -1,16 +1,19 @@
--- `files::valid::rule_passes` meets its contract: a branch for each test that a rule may fail.
-use borrow.Author.Rules.{rules}
+-- `files::valid::rule_passes` meets its contract.
+use Rattle.std.proofs.Common.{rules, ◌≤◌, get_or}
 use Rattle.files.proofs.Tester.{rule_laws}
 use Rattle.files.proofs.valid.rule_passes.Goals as goal
 
-pub returns-then-k-lt1 : goal.returns-then-k-lt1
-returns-then-k-lt1 c = search (rules, rule_laws)
+pub returns-then-is_err : goal.returns-then-is_err
+returns-then-is_err c = search (rules, rule_laws)
 
-pub returns-then-k-gt3 : goal.returns-then-k-gt3
-returns-then-k-gt3 c = search (rules, rule_laws)
+pub returns-then-from-rules : goal.returns-then-from-rules
+returns-then-from-rules c =
+    let low : 1 ≤ get_or c.args.rules.now.kind c.args.x 0 = search (rules, rule_laws) in
+    let high : get_or c.args.rules.now.kind c.args.x 0 ≤ 3 = search (rules, rule_laws) in
+    search (rules, rule_laws)
 
-pub returns-then-wide-count : goal.returns-then-wide-count
-returns-then-wide-count c = search (rules, rule_laws)
-
-pub returns : goal.returns
-returns c = search (rules, rule_laws)
+pub returns-else-from-rules : goal.returns-else-from-rules
+returns-else-from-rules c =
+    let low : 1 ≤ get_or c.args.rules.now.kind c.args.x 0 = search (rules, rule_laws) in
+    let high : get_or c.args.rules.now.kind c.args.x 0 ≤ 3 = search (rules, rule_laws) in
+    search (rules, rule_laws)

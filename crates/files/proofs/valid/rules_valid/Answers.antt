@@ -1,10 +1,10 @@
--- `files::valid::rules_valid` meets its contract: the count, then the rules.
-use borrow.Author.Rules.{rules}
+-- `files::valid::rules_valid` meets its contract.
+use Rattle.std.proofs.Common.{rules}
 use Rattle.files.proofs.Tester.{rules_valid_laws}
 use Rattle.files.proofs.valid.rules_valid.Goals as goal
 
-pub returns-then-many-gt256 : goal.returns-then-many-gt256
-returns-then-many-gt256 c = search (rules, rules_valid_laws)
+pub returns-then-rules-le256 : goal.returns-then-rules-le256
+returns-then-rules-le256 c = search (rules, rules_valid_laws)
 
-pub returns : goal.returns
-returns c = search (rules, rules_valid_laws)
+pub returns-else-rules-le256 : goal.returns-else-rules-le256
+returns-else-rules-le256 c = search (rules, rules_valid_laws)

@@ -1,17 +1,11 @@
--- `files::write::collect_paths` meets its contract: what is stored and what remains is the whole.
-use Prim.Native.Nat.{◌*◌, ◌-◌, ◌≤◌}
-use mathlib.Core.Path.{◌≡◌}
-use lib.Seq.{sets}
+-- What is collected and what remains is the whole.
+use Rattle.std.proofs.Common.{◌≡◌, ◌-◌, ◌*◌, ◌++◌, length}
 use Rattle.files.specs.RuleFile.{path_numbers}
 use Rattle.files.specs.Rules.{paths_from}
+use Rattle.files.specs.Writing.{path_section}
 use Rattle.files.proofs.write.collect_paths.Given as goal
 
 abbrev pub invariant-loop-x : goal.invariant-loop-x
 invariant-loop-x l =
-    (1 ≤ l.x)
-    × (l.x ≤ l.count)
-    × (l.at ≡ 2 * l.x)
-    × (sets l.numbers l.at (path_numbers (paths_from l.parent l.label l.x (l.count - l.x))) ≡ sets l.initial.numbers 2 (path_numbers (paths_from l.parent l.label 1 (l.count - 1))))
-
-abbrev pub decreases-loop-x : goal.decreases-loop-x
-decreases-loop-x l = l.count - l.x
+    (length l.numbers.items ≡ 2 * l.x)
+    × (l.numbers.items ++ path_numbers (paths_from l.rules.parent l.rules.label l.x (l.rules.paths - l.x)) ≡ path_section l.rules.parent l.rules.label l.rules.paths)

@@ -1,16 +1,12 @@
--- `files::write::collect_rules` meets its contract: what is stored and what remains is the whole.
-use Prim.Native.Nat.{◌+◌, ◌*◌, ◌-◌, ◌≤◌}
-use mathlib.Core.Path.{◌≡◌}
-use lib.Seq.{sets}
+-- What is collected and what remains is the whole.
+use Rattle.std.proofs.Common.{◌≡◌, ◌+◌, ◌-◌, ◌*◌, ◌++◌, length}
 use Rattle.files.specs.RuleFile.{rule_numbers}
 use Rattle.files.specs.Rules.{rules_from}
+use Rattle.files.specs.Writing.{rule_section}
 use Rattle.files.proofs.write.collect_rules.Given as goal
 
 abbrev pub invariant-loop-x : goal.invariant-loop-x
 invariant-loop-x l =
-    (l.x ≤ l.many)
-    × (l.at ≡ l.start + 1 + 3 * l.x)
-    × (sets l.numbers l.at (rule_numbers (rules_from l.kind l.left l.right l.x (l.many - l.x))) ≡ sets l.initial.numbers (l.start + 1) (rule_numbers (rules_from l.kind l.left l.right 0 l.many)))
-
-abbrev pub decreases-loop-x : goal.decreases-loop-x
-decreases-loop-x l = l.many - l.x
+    (length l.numbers.items ≡ length l.fn.numbers.items + 1 + 3 * l.x)
+    × (l.numbers.items ++ rule_numbers (rules_from l.rules.kind l.rules.left l.rules.right l.x (l.rules.rules - l.x))
+    ≡ l.fn.numbers.items ++ rule_section l.rules.kind l.rules.left l.rules.right l.rules.rules)

@@ -1,28 +1,8 @@
--- `handed::emit::above_any` meets its contract: what is gathered and what remains is the whole.
-use borrow.Author.Rules.{rules}
-use Rattle.handed.proofs.GoalWords.{gather_laws}
+-- `handed::emit::above_any` meets its contract: the paths above each one, joined.
+use Rattle.std.proofs.Common.{rules, ◌∙◌}
+use Rattle.reachable.specs.Sheet.{row, above_at}
+use Rattle.handed.proofs.Gathering.{joined_gathers}
 use Rattle.handed.proofs.emit.above_any.Goals as goal
 
-pub loop-left-init : goal.loop-left-init
-loop-left-init c = search (rules, gather_laws)
-
-pub lowest-requires : goal.lowest-requires
-lowest-requires c = search (rules, gather_laws)
-
-pub above-requires : goal.above-requires
-above-requires c = search (rules, gather_laws)
-
-pub union-all-requires : goal.union-all-requires
-union-all-requires c = search (rules, gather_laws)
-
-pub without_lowest-left-requires : goal.without_lowest-left-requires
-without_lowest-left-requires c = search (rules, gather_laws)
-
-pub loop-left-smaller : goal.loop-left-smaller
-loop-left-smaller c = search (rules, gather_laws)
-
-pub loop-left-preserved : goal.loop-left-preserved
-loop-left-preserved c = search (rules, gather_laws)
-
 pub returns : goal.returns
-returns c = search (rules, gather_laws)
+returns c = c.joined.ensures (λ g. row above_at c.args.sheet.now g) (λ x r l p. search rules) ∙ joined_gathers _ _ _ c.ranges.paths.fits

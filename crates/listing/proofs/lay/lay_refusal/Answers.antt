@@ -1,15 +1,27 @@
 -- `listing::lay::lay_refusal` meets its contract.
-use borrow.Author.Rules.{rules}
-use native.Mathlib.Omega.{arith}
-use Rattle.listing.proofs.Laying.{refusal_laws}
-use Rattle.listing.proofs.Pieces.{spaced_few}
+use Rattle.std.proofs.Common.{rules, arith, sym, ap, ◌∙◌, length, []}
+use Rattle.listing.specs.Lay.{refused_word}
+use Rattle.listing.proofs.Blocks.{spaced_few, left_after, filled_after, writes_both}
+use Rattle.listing.proofs.Laying.{refusal_written}
 use Rattle.listing.proofs.lay.lay_refusal.Goals as goal
 
-pub returns-then-out-lt64 : goal.returns-then-out-lt64
-returns-then-out-lt64 c = search (rules, refusal_laws)
-
 pub put_last-requires : goal.put_last-requires
-put_last-requires c = omega (arith, spaced_few c.args.number)
+put_last-requires c =
+    omega (
+      arith,
+      spaced_few c.args.number,
+      left_after _ [] _ _ c.put.new.self c.put.ensures,
+      filled_after _ [] _ _ c.put.new.self c.put.ensures,
+      left_after _ [] _ _ c.put_spaced.new.self c.put_spaced.ensures,
+      filled_after _ [] _ _ c.put_spaced.new.self c.put_spaced.ensures,
+      ap length c.new-block.ensures.out,
+      c.new-block.ensures.filled,
+      c.if-out-lt-REFUSAL.false,
+    )
 
 pub returns : goal.returns
-returns c = search (rules, refusal_laws)
+unfolding refused_word
+returns c =
+    let all = writes_both _ _ _ _ _ c.put.ensures (writes_both _ _ _ _ _ c.put_spaced.ensures c.put_last.ensures) in
+    let same = sym c.new-block.ensures.same_reference ∙ sym all.same in
+    refusal_written _ _ _ _ _ _ _ c.if-out-lt-REFUSAL.false c.new-block.ensures.out c.new-block.ensures.filled all (search rules) c.filled.ensures

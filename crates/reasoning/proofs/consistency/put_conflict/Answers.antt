@@ -1,14 +1,19 @@
 -- `reasoning::consistency::put_conflict` meets its contract.
-use Rattle.reasoning.proofs.Calling.{told, lent_some, lent_within}
-use native.Mathlib.Omega.{arith}
-use Rattle.reasoning.specs.declared.consistency.Verdict.{Verdict}
+use Rattle.std.proofs.Common.{refl}
+use Rattle.std.proofs.lemmas.Result.{err_from_is_err_and}
+use Rattle.reasoning.specs.Calls.{answer_of}
+use Rattle.reasoning.specs.Verdict.{Inconsistent, Refused}
+use Rattle.reasoning.proofs.Calling.{told}
 use Rattle.reasoning.proofs.consistency.put_conflict.Goals as goal
 
-pub slice_bounds-numbers-end : goal.slice_bounds-numbers-end
-slice_bounds-numbers-end c = lent_within _ _ _ _ _ c.put_ground-n.ensures (omega arith)
-
-pub slice_bounds-put_numbers-end : goal.slice_bounds-put_numbers-end
-slice_bounds-put_numbers-end c = lent_some _ _ _ _ _ c.put_ground-n.ensures (omega arith)
+pub returns-in_err-put_numbers : goal.returns-in_err-put_numbers
+unfolding answer_of
+returns-in_err-put_numbers c =
+    let p = err_from_is_err_and c.from_residual.result c.from_residual.ensures.1 in
+    rw (p.1, p.2)
+    (told Inconsistent Refused _ _ _ _ _ _ c.new-numbers.ensures c.put_ground.ensures c.as_slice.ensures.value _ _ _ c.in_err-put_numbers.ensures refl)
 
 pub returns : goal.returns
-returns c = told Verdict.Inconsistent Verdict.Refused _ _ _ _ _ _ c.put_ground-n.ensures (omega arith) _ _ _ c.put_numbers.ensures c.shown.ensures
+unfolding answer_of
+returns c =
+    told Inconsistent Refused _ _ _ _ _ _ c.new-numbers.ensures c.put_ground.ensures c.as_slice.ensures.value _ _ _ c.in_ok-put_numbers.ensures refl

@@ -16,4 +16,4 @@ pub put_no-requires : goal.put_no-requires
 put_no-requires c = settle_low _ (omega (arith, c.well_formed)) _ _ _ _ _ c.requires
 
 pub returns : goal.returns
-returns c = counter_told _ (omega (arith, c.well_formed)) _ _ _ _ _ _ (settle_no _ (omega (arith, c.well_formed)) _ _ _ _ _ c.requires _ c.clashing.ensures _ c.grounds-b.ensures _ c.yes.ensures c.if-yes.false _ c.given.ensures) _ _ _ c.put_no.ensures
+returns c = counter_told _ (omega (arith, c.well_formed)) _ _ _ _ _ _ (settle_no _ (omega (arith, c.well_formed)) _ _ _ _ _ c.requires _ c.clashing.ensures _ c.grounds-b.ensures _ c.yes.ensures c.if-yes.false _ c.is_some.ensures) _ _ _ c.put_no.ensures

@@ -1,9 +1,0 @@
--- `trials::least::least_pair` meets its contract.
-use Rattle.std.proofs.Common.{◌-◌}
-use Rattle.trials.proofs.least.least_pair.Given as goal
-
-abbrev pub invariant-loop-i : goal.invariant-loop-i
-invariant-loop-i l = Unit {0}
-
-abbrev pub decreases-loop-i : goal.decreases-loop-i
-decreases-loop-i l = 16 - l.i

@@ -1,9 +1,0 @@
--- `trials::least::widened` meets its contract.
-use Rattle.std.proofs.Common.{◌-◌}
-use Rattle.trials.proofs.least.widened.Given as goal
-
-abbrev pub invariant-loop-x : goal.invariant-loop-x
-invariant-loop-x l = Unit {0}
-
-abbrev pub decreases-loop-x : goal.decreases-loop-x
-decreases-loop-x l = 8 - l.x

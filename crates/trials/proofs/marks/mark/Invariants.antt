@@ -1,9 +1,0 @@
--- `trials::marks::mark` meets its contract.
-use Rattle.std.proofs.Common.{◌≡◌, ◌-◌, length}
-use Rattle.trials.proofs.marks.mark.Given as goal
-
-abbrev pub invariant-loop-i : goal.invariant-loop-i
-invariant-loop-i l = (length l.out ≡ length l.initial.out) × (l.i-end ≡ length l.initial.out)
-
-abbrev pub decreases-loop-i : goal.decreases-loop-i
-decreases-loop-i l = l.i-end - l.i
