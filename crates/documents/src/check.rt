@@ -68,7 +68,8 @@ impl Rule {
     }
 }
 
-// The least broken rule and the least part that breaks it. A rule of a kind that no valid table has counts as a co-occurrence.
+// The least broken rule and the least part that breaks it. A rule of a kind that no valid table has counts as a co-occurrence. `parent` is
+// as the public `context` takes it.
 #[tactic(auto, using(crate::proofs::Judging::rules_laws))]
 fn broken_rule(rules: &Rules, parent: &[u8; 64], held: &Held) -> Option<(usize, usize)>
     requires { (rules.now.rules ≤ 256) × Linking held.now.first held.now.next }

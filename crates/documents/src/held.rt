@@ -53,7 +53,7 @@ impl Held {
     }
 }
 
-// All that the children hold whose count stands at `at`.
+// All that the children hold whose count stands at `at`, where this begins a `Reader`, so that its caller need not.
 fn children_hold(document: &[u8], at: usize, held: &[u64; PARTS]) -> u64
     ensures { result ≡ held_among held.now (kids_at document.now at) }
 {

@@ -12,7 +12,8 @@ use files::kind::Kind;
 use files::sets;
 use reachable::sheet::{Sheet, left_of, right_of};
 
-// That p is dead: the least path at which a rule clashes, and the least rule.
+// That p is dead: the least path at which a rule clashes, and the least rule. `clash` stands beside the sheet, here and below, since
+// `grounds` and `conflict` answer for any word.
 fn dead(sheet: &Sheet, clash: u64, p: usize) -> Option<Ground>
     requires { p < 64 }
     ensures { result ≡ dead_ground sheet.now clash p }

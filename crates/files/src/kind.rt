@@ -10,6 +10,7 @@ pub enum Kind {
 }
 
 impl Kind {
+    // Its number by the name that the clauses have for it, where `u8::from` would say no more.
     pub fn number(self) -> u8
         ensures { result ≡ kind_number self }
     {

@@ -27,7 +27,7 @@ fn second(low: u32, high: u32) -> Result<Number, Condition>
     })
 }
 
-// The number at `at`.
+// The number at `at`: a `Reader` keeps the place from one number to the next, and stands on this.
 pub fn read_number(s: &[u8], at: usize) -> Result<Number, Condition>
     ensures begun { begun result ≡ number_in (drop at s.now) }
     ensures fits { IfOk result (λ n. at + n.width < 2 ^ 64) }
@@ -53,7 +53,7 @@ pub fn size_of(n: u32) -> usize
     2
 }
 
-// The number's bytes stored from `at` on; the place after them.
+// The number's bytes stored from `at` on; the place after them. No struct holds `out` and `at`: it has one caller, which knows the room.
 pub(crate) fn put_number(out: &mut [u8], at: usize, n: u32) -> usize
     requires { (n < limit) × (at + length (bytes_of n) ≤ length out.old) }
     ensures { (result ≡ at + length (bytes_of n)) × (out.new ≡ sets out.old at (bytes_of n)) }

@@ -35,7 +35,7 @@ struct Paths {
     depth: [u8; 64],
 }
 
-// The kind is the number that `Rules` holds.
+// The kind is a number, as `Rules` holds it: a table may have any.
 #[derive(Clone, Copy)]
 struct OneRule {
     kind: u8,

@@ -35,6 +35,7 @@ pub struct Refusal {
 }
 
 impl Condition {
+    // Its number by the name that the clauses have for it, where `u8::from` would say no more.
     pub fn number(self) -> u8
         ensures { result ≡ condition_number self }
     {

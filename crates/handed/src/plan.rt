@@ -39,6 +39,8 @@ impl Plan {
         }
     }
 
+    // The rows by name, a function each: with a const parameter every caller would write the row's offset.
+
     // The goals of the one-goal parts on a path.
     pub(crate) fn goals_on(&self, path: usize) -> u64
         requires { path < 64 }

@@ -14,7 +14,7 @@ const PIECE: usize = 48;
 const REFUSAL: usize = 64;
 
 // What the next number is: the part count, a part's path, its child count, a child; or the first number of evidence, or a
-// further one.
+// further one. A parameter of `lay`, and what `laid_text` goes by.
 #[derive(Clone, Copy, Debug, PartialEq, Eq)]
 pub enum Stage {
     Count,

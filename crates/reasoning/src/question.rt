@@ -28,7 +28,7 @@ pub enum Reply {
     No(usize),
 }
 
-// A yes: its evidence is put into the buffer.
+// A yes: its evidence is put into the buffer. As `put_conflict`, of another answer's type.
 fn put_yes(sheet: &Sheet, b: Both, out: &mut [u8]) -> Result<Reply, Refusal>
     requires { InRange b.first × InRange b.second }
     ensures { Told Yes Refused (ground_numbers sheet.now b.first ++ ground_numbers sheet.now b.second) out.old (reply result) out.new }
@@ -92,7 +92,7 @@ fn counter(sheet: &Sheet, c: Question, holds: bool) -> Begins
     }
 }
 
-// A no: its counter-document is put into the buffer.
+// A no: its counter-document is put into the buffer. As `put_witness`, of another answer's type.
 fn put_no(sheet: &Sheet, c: Question, holds: bool, out: &mut [u8]) -> Result<Reply, Refusal>
     requires { (c.first < 64) × (c.second < 64) }
     ensures { Told No Refused (counter_numbers sheet.now (kind_number c.kind) c.first c.second holds) out.old (reply result) out.new }
