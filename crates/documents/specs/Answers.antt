@@ -3,7 +3,6 @@ use Rattle.std.specs.Prelude.{ℕ, Option, Some, None, Result, Ok, Err}
 use Rattle.files.specs.declared.refusal.Refusal.{Refusal}
 use Rattle.files.specs.Refusals.{condition_number}
 use Rattle.documents.specs.declared.check.Checked.{Checked as Returned}
-use Rattle.documents.specs.declared.check.Checked.TheVariants.{Obeys as obeys, Broken as broken, Missing as missing}
 
 -- the answer: the document obeys, the least broken rule and the least part that breaks it, the least required path missing,
 -- or the refusal's number and offset
@@ -15,9 +14,9 @@ pub data Checked : Type 0 where
 
 -- the answer that a result is
 abbrev pub checked : Result Returned Refusal → Checked
-checked (Ok obeys) = Obeys
-checked (Ok (broken r n)) = Broken r n
-checked (Ok (missing x)) = Missing x
+checked (Ok Returned.Obeys) = Obeys
+checked (Ok (Returned.Broken r n)) = Broken r n
+checked (Ok (Returned.Missing x)) = Missing x
 checked (Err e) = Refused (condition_number e.condition) e.offset
 
 -- where among the parts something stands: its number, or nowhere

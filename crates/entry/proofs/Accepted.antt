@@ -4,13 +4,11 @@ use mathlib.Core.Path.{◌≡◌, sym, ap, subst, ◌∙◌}
 use mathlib.Core.List.{List, ◌++◌}
 use lib.ListN.{length, drop}
 use borrow.Author.Tests.{le-leb, lt-leb}
-use Rattle.files.specs.Reading.{Answer}
+use Rattle.files.specs.Reading.{Answer, read_answer}
 use Rattle.files.specs.declared.rules.Rules.{Rules}
-use Rattle.files.specs.Writing.{Written}
-use Rattle.files.specs.Reading.{read_answer}
+use Rattle.files.specs.Writing.{Written, write_answer, Put, put}
 use Rattle.files.specs.RuleFile.{file_of}
 use Rattle.files.specs.Rules.{ValidTable, table_of}
-use Rattle.files.specs.Writing.{write_answer, Put, put}
 use Rattle.files.proofs.TableStructs.{rules_of_table, table_valid, table_word, write_valid}
 use Rattle.reasoning.specs.Verdict.{Verdict}
 use Rattle.reasoning.specs.Reply.{Reply}

@@ -3,10 +3,8 @@ use Prim.Native.Nat.{ℕ}
 use mathlib.Core.Path.{◌≡◌, subst, ap, sym, ◌∙◌}
 use mathlib.Core.List.{List}
 use native.Mathlib.Omega.{arith}
-use Rattle.files.specs.Reading.{Answer}
-use Rattle.files.specs.Reading.{Reading}
+use Rattle.files.specs.Reading.{Answer, Reading, read_answer, ReadRules}
 use Rattle.files.specs.declared.rules.Rules.{Rules}
-use Rattle.files.specs.Reading.{read_answer, ReadRules}
 use Rattle.entry.specs.Calls.{OverFile, NumbersOf}
 
 module _ (file : List ℕ) (r : Reading) (h : ReadRules file r) (OfRefused : ℕ → ℕ → Type 0) (OfRules : Rules → Type 0) where

@@ -2,9 +2,8 @@
 use Prim.Native.Nat.{ℕ}
 use mathlib.Core.Path.{◌≡◌, refl, ap, sym, ◌∙◌}
 use mathlib.Core.List.{List}
-use Rattle.files.specs.Reading.{Answer}
+use Rattle.files.specs.Reading.{Answer, read_answer}
 use Rattle.files.specs.declared.rules.Rules.{Rules}
-use Rattle.files.specs.Reading.{read_answer}
 use Rattle.files.proofs.WritingJoins.{write_unique}
 use Rattle.documents.proofs.CheckingJoins.{check_unique}
 use Rattle.reasoning.proofs.ConsistencyJoins.{consistency_unique}

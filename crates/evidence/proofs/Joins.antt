@@ -10,7 +10,7 @@ use lib.Dec.{T, eqb, ltb, ltb→lt, lit<}
 use lib.Ieee.Fits.{and_l, and_r, and_i}
 use lib.ListN.{length}
 use Rattle.files.specs.Table.{Rule}
-use Rattle.files.specs.Sets.{Has, hasb, common, lowest, members}
+use Rattle.files.specs.Sets.{Has, hasb, common, lowest, members, join_words}
 use Rattle.files.proofs.SetBits.{same_sets, not_has, bit_of_zero, has_union, has_common, common_lt, union_lt}
 use Rattle.files.proofs.SetLowest.{lowest_first}
 use Rattle.files.proofs.SetMembers.{mem_members}
@@ -25,7 +25,6 @@ use Rattle.theory.proofs.Least.{least_passes, least_least, least_some, passing_i
 use Rattle.theory.proofs.Decide.{rule_at_numbered, AbsenceWith, absence_test}
 use Rattle.reachable.specs.Sheet.{row, back_at, absence_at, set_at, rule_in, left_in, right_in, place_in, absences_in}
 use Rattle.reachable.specs.SheetWords.{AbsenceRow, Says}
-use Rattle.files.specs.Sets.{join_words}
 use Rattle.evidence.specs.Choices.{clash_in, clash_below, clashing_in, row_passes, first_row, clashes_at, clashes_in, dead_needed, straight_in, pair_in, reachers_in, root_in}
 use Rattle.evidence.proofs.Joined.{Among, joined_in, joined_all, joined_small}
 use Rattle.evidence.proofs.Walking.{same_test, true_of, T_true}

@@ -4,10 +4,8 @@ use mathlib.Core.Path.{◌≡◌, refl, sym, ap, subst, ◌∙◌}
 use mathlib.Core.List.{List}
 use native.Mathlib.Omega.{arith}
 use lib.ListN.{length}
-use Rattle.files.specs.Reading.{Answer}
-use Rattle.files.specs.Reading.{Reading}
+use Rattle.files.specs.Reading.{Answer, Reading, ReadRules}
 use Rattle.files.specs.declared.rules.Rules.{Rules}
-use Rattle.files.specs.Reading.{ReadRules}
 use Rattle.files.specs.Rules.{ValidTable}
 use Rattle.files.proofs.TableStructs.{table_valid}
 use Rattle.listing.specs.Text.{Stored}

@@ -5,9 +5,7 @@ use mathlib.Core.List.{List}
 use native.Mathlib.Decide.{dec_lt}
 use native.Mathlib.Omega.{arith}
 use lib.ListN.{length}
-use Rattle.files.specs.Reading.{Answer}
-use Rattle.files.specs.Reading.{Reading}
-use Rattle.files.specs.Reading.{ReadRules}
+use Rattle.files.specs.Reading.{Answer, Reading, ReadRules}
 use Rattle.listing.specs.Lay.{consistent, inconsistent, refused_word, refused_text, inconsistent_text, consistent_text}
 use Rattle.printing.specs.Printing.{TEXT, lists, shows, Says, refuses, accepts, Prints}
 

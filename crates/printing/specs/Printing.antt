@@ -1,10 +1,9 @@
 -- The whole text that the verdict program prints for the bytes of a rule file: which bytes it is, and what it says.
 use Rattle.std.specs.Prelude.{ℕ, ◌+◌, ◌*◌, ◌≤◌, ◌<◌, ◌≡◌, List, [], length, take, replicate}
-use Rattle.files.specs.Reading.{Answer}
+use Rattle.files.specs.Reading.{Answer, read_answer}
 use Rattle.files.specs.declared.rules.Rules.{Rules}
 use Rattle.files.specs.Format.{Outcome, got, refused, run_all}
 use Rattle.files.specs.Meets.{Meets}
-use Rattle.files.specs.Reading.{read_answer}
 use Rattle.files.specs.RuleFile.{file_of}
 use Rattle.files.specs.Rules.{rules_of, ValidTable, table_of}
 use Rattle.files.specs.Table.{RuleSet, Valid}

@@ -7,12 +7,11 @@ use native.Mathlib.Omega.{arith}
 use native.Mathlib.Decide.{ℕ_discrete}
 use borrow.Author.Tests.{eq-eqb, ne_eqb, not-true, not-false}
 use Rattle.files.specs.declared.rules.Rules.{Rules}
-use Rattle.files.specs.Writing.{Written}
+use Rattle.files.specs.Writing.{Written, put, wrapped, Puts}
 use Rattle.files.specs.Number.{bytes_of_all}
 use Rattle.files.specs.Rules.{parents_in, ValidTable}
 use Rattle.files.specs.Sets.{with_path}
 use Rattle.files.specs.TableTest.{table_passes}
-use Rattle.files.specs.Writing.{put, wrapped, Puts}
 use Rattle.files.proofs.TableTests.{passes_valid}
 use Rattle.documents.specs.Judgement.{parents_of}
 use Rattle.documents.specs.Paths.{context_of}

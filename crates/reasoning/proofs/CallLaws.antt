@@ -7,12 +7,11 @@ use mathlib.Core.List.{List, [], ◌∷◌, Memᴰ}
 use native.Mathlib.Omega.{arith}
 use lib.Dec.{T}
 use Rattle.files.specs.declared.rules.Rules.{Rules}
-use Rattle.files.specs.Writing.{Written}
+use Rattle.files.specs.Writing.{Written, put, wrapped, Puts}
 use Rattle.files.specs.Number.{limit, bytes_of_all}
 use Rattle.files.specs.Rules.{parents_in, ValidTable}
 use Rattle.files.specs.Table.{Rule}
 use Rattle.files.specs.TableTest.{table_passes}
-use Rattle.files.specs.Writing.{put, wrapped, Puts}
 use Rattle.files.proofs.TableTests.{passes_valid}
 use Rattle.reasoning.specs.Verdict.{Verdict}
 use Rattle.reasoning.specs.Reply.{Reply}

@@ -6,11 +6,10 @@ use borrow.Author.Tests.{not-true, not-false}
 use mathlib.Core.List.{List, [], ◌∷◌, ◌++◌}
 use native.Mathlib.Omega.{arith}
 use Rattle.files.specs.declared.rules.Rules.{Rules}
-use Rattle.files.specs.Writing.{Written}
+use Rattle.files.specs.Writing.{Written, put, wrapped, Puts}
 use Rattle.files.specs.Number.{bytes_of_all}
 use Rattle.files.specs.Rules.{rules_of, parents_in, ValidTable}
 use Rattle.files.specs.TableTest.{table_passes}
-use Rattle.files.specs.Writing.{put, wrapped, Puts}
 use Rattle.files.specs.Sets.{with_path}
 use Rattle.files.proofs.TableTests.{passes_valid}
 use Rattle.documents.specs.Judgement.{parents_of}

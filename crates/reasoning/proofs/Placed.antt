@@ -7,8 +7,7 @@ use lib.Dec.{leb}
 use lib.ListN.{length, take, drop}
 use lib.Seq.{take-append_seam}
 use borrow.Author.Tests.{leb-true, leb-false}
-use Rattle.files.specs.Writing.{Written}
-use Rattle.files.specs.Writing.{put, Puts}
+use Rattle.files.specs.Writing.{Written, put, Puts}
 use Rattle.reasoning.specs.Calls.{Answered, answer_of, answered, Fills}
 
 -- what the answer and the buffer are once bytes were put

@@ -1,15 +1,13 @@
 -- The two calls: what each answers, what the lent buffer then holds, and what that means over all documents.
 use Rattle.std.specs.Prelude.{ℕ, ◌≤◌, ◌<◌, ◌≡◌, ◌↔◌, ◌⊎◌, Bool, true, false, ◌&&◌, List, ◌∷◌, ◌++◌, leb, ltb, length, take, drop}
 use Rattle.files.specs.declared.rules.Rules.{Rules}
-use Rattle.files.specs.Writing.{Written}
-use Rattle.files.specs.Writing.{Length, Refused}
+use Rattle.files.specs.Writing.{Written, Length, Refused, Put, put}
 use Rattle.files.specs.Format.{got, run_all}
 use Rattle.files.specs.Number.{bytes_of_all}
 use Rattle.files.specs.Rules.{rules_of, ValidTable}
 use Rattle.files.specs.Sets.{with_path}
 use Rattle.files.specs.Table.{Rule}
 use Rattle.files.specs.TableTest.{table_passes}
-use Rattle.files.specs.Writing.{Put, put}
 use Rattle.documents.specs.Judgement.{parents_of}
 use Rattle.documents.specs.Tree.{Forest, Document}
 use Rattle.documents.specs.Obey.{ObeysRule, Obeys}

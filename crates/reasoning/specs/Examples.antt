@@ -1,10 +1,9 @@
 -- E1 to E12 of 01 from the bytes of their files, and an example more for each rule of choice that these do not settle: what the
 -- calls answer, with all the bytes that they write.
 use Rattle.std.specs.Prelude.{ℕ, List, [], ◌∷◌, ◌++◌, replicate, take}
-use Rattle.files.specs.Reading.{Answer}
+use Rattle.files.specs.Reading.{Answer, read_answer}
 use Rattle.files.specs.declared.rules.Rules.{Rules}
 use Rattle.files.specs.LiteralFiles.{LiteralFile, listed_file, full_file}
-use Rattle.files.specs.Reading.{read_answer}
 use Rattle.reasoning.specs.Verdict.{Verdict}
 use Rattle.reasoning.specs.Reply.{Reply}
 use Rattle.reasoning.specs.Calls.{consistency_answer, ask_answer}

@@ -1,12 +1,11 @@
 -- A table that passed its test, as the calls lend it on: its parents in an array of their own, and its sheet.
 use Rattle.std.specs.Prelude.{ℕ, ◌≡◌, Bool, true, false, List, eqb}
 use Rattle.files.specs.declared.rules.Rules.{Rules}
-use Rattle.files.specs.Writing.{Written}
+use Rattle.files.specs.Writing.{Written, put, wrapped, Puts}
 use Rattle.files.specs.Number.{bytes_of_all}
 use Rattle.files.specs.Rules.{parents_in}
 use Rattle.files.specs.Sets.{with_path}
 use Rattle.files.specs.TableTest.{table_passes}
-use Rattle.files.specs.Writing.{put, wrapped, Puts}
 use Rattle.reachable.specs.Arrays.{parent_of, rule_list}
 use Rattle.reachable.specs.Sheet.{context_in}
 use Rattle.reachable.specs.Grow.{sheet_of}
