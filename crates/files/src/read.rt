@@ -1,12 +1,14 @@
 // Reading a rule file.
-ghost use Rattle.std.specs.Prelude.{◌-◌, ◌≤◌, ◌<◌, ◌≡◌, MatchResult, []};
+ghost use Rattle.std.specs.Prelude.{◌-◌, ◌≤◌, ◌<◌, ◌≡◌, MatchResult, [], drop};
+ghost use Rattle.files.specs.Number.{number_in, numbered, passed, tested};
 ghost use Rattle.files.specs.Format.{run_all, got, refused};
-ghost use Rattle.files.specs.RuleFile.{one_path, more_paths, depths, one_rule, more_rules, more_ascending, rule_file};
+ghost use Rattle.files.specs.RuleFile.{between, one_path, more_paths, depths, one_rule, more_rules, more_ascending, rule_file};
 ghost use Rattle.files.specs.Rules.{paths_from, padded, table_of, no_rules};
 ghost use Rattle.files.specs.Refusals.{condition_number};
 ghost use Rattle.files.specs.Readers.{Reads};
 ghost use Rattle.files.specs.Reading.{PathIs, PathsAre, RequiredAre, RuleIs, RulesIn, StandsFor, reading, ReadRules};
 
+use crate::number::{Number, read_number};
 use crate::path_test::{label_test, parent_test};
 use crate::reader::Reader;
 use crate::refusal::{Condition, Refusal};
@@ -49,6 +51,38 @@ struct RuleList {
     kind: [u8; 256],
     left: [u8; 256],
     right: [u8; 256],
+}
+
+// A number of which the test says `why`: the number where that is 0, else the refusal. By numbers, since its contract is of any.
+#[tactic(auto, using(crate::proofs::Passed::passed_laws))]
+pub fn passed(n: u32, width: usize, why: u8) -> Result<Number, u8>
+    ensures { numbered result ≡ passed n width why }
+{
+    if 0 < why {
+        return Err(why);
+    }
+    Ok(Number { value: n, width })
+}
+
+// A number that stands from `low` up to and without `past`, or its refusal, whose number is any too.
+#[tactic(auto, using(crate::proofs::Passed::tested_laws))]
+pub fn read_between(s: &[u8], at: usize, low: u32, past: u32, refusal: u8) -> Result<Number, u8>
+    ensures { numbered result ≡ tested (between low past refusal) (number_in (drop at s.now)) }
+{
+    match read_number(s, at) {
+        Err(condition) => Err(condition.number()),
+        Ok(number) => {
+            let n = number.value;
+            let width = number.width;
+            if n < low {
+                return passed(n, width, refusal);
+            }
+            if past <= n {
+                return passed(n, width, refusal);
+            }
+            Ok(Number { value: n, width })
+        }
+    }
 }
 
 // Path `own`, after the paths before it.
