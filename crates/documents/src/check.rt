@@ -112,7 +112,12 @@ fn judge(rules: &Rules, parent: &[u8; 64], document: &[u8], parts: &Parts) -> Ch
         (entries_from document.now parts.now.path parts.now.place 0 parts.now.count)
         (held (entries_from document.now parts.now.path parts.now.place 0 parts.now.count))) }
 {
-    let held = hold_all(document, parts);
+    let mut held = Held {
+        sets: [0; PARTS],
+        first: [None; 256],
+        next: [None; PARTS],
+    };
+    hold_all(document, parts, &mut held);
     match broken_rule(rules, parent, &held) {
         Some((rule, part)) => Checked::Broken(rule, part),
         None => missing(rules.required, held.sets[0]),

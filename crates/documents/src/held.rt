@@ -1,5 +1,5 @@
 // From the last part to the first: the set of paths that each part holds, and the parts on each path in ascending order.
-ghost use Rattle.std.specs.Prelude.{◌-◌, ◌≤◌, ◌<◌, ◌≡◌, None, IfSome, get_or};
+ghost use Rattle.std.specs.Prelude.{◌-◌, ◌≤◌, ◌<◌, ◌≡◌, None, IfSome, get_or, length, replicate};
 ghost use Rattle.std.specs.Iterator.{at_most};
 ghost use Rattle.documents.specs.Reading.{kids_at};
 ghost use Rattle.documents.specs.PartList.{part_limit};
@@ -14,8 +14,8 @@ use files::sets;
 #[derive(Clone, Copy)]
 pub(crate) struct Held {
     pub sets: [u64; PARTS],
-    first: [Option<u16>; 256],
-    next: [Option<u16>; PARTS],
+    pub first: [Option<u16>; 256],
+    pub next: [Option<u16>; PARTS],
 }
 
 // The parts on a path from one on, ascending.
@@ -74,21 +74,17 @@ fn children_hold(document: &[u8], at: usize, held: &[u64; PARTS]) -> u64
     set
 }
 
-// What the parts of a document hold, and the parts on each path.
-pub(crate) fn hold_all(document: &[u8], parts: &Parts) -> Held
-    requires { (parts.now.count ≤ part_limit) × Laid document.now parts.now.path parts.now.place parts.now.count }
-    ensures { Linked document.now parts.now.path parts.now.place parts.now.count 0 result.sets result.first result.next }
+// What the parts of a document hold, and the parts on each path, where no part is yet. They go where they are lent a place: returned,
+// their 7 KB are copied.
+pub(crate) fn hold_all(document: &[u8], parts: &Parts, held: &mut Held)
+    requires { (parts.now.count ≤ part_limit) × Laid document.now parts.now.path parts.now.place parts.now.count
+        × (length held.old.sets ≡ part_limit) × (held.old.first ≡ replicate 256 None) × (held.old.next ≡ replicate part_limit None) }
+    ensures { Linked document.now parts.now.path parts.now.place parts.now.count 0 held.new.sets held.new.first held.new.next }
 {
-    let mut held = Held {
-        sets: [0; PARTS],
-        first: [None; 256],
-        next: [None; PARTS],
-    };
     for n in (0..parts.count).rev() {
         let path = usize::from(parts.path[n]);
         held.sets[n] = sets::with(children_hold(document, parts.place[n], &held.sets), path);
         held.next[n] = held.first[path];
         held.first[path] = Some(n as u16);
     }
-    held
 }

@@ -6,12 +6,11 @@ use native.Mathlib.Omega.{arith}
 use lib.ListN.{get_or, set, replicate, length-map}
 use Rattle.std.specs.Prelude.{Ok, Err}
 use Rattle.files.specs.declared.read.OnePath.{OnePath}
-use Rattle.files.specs.declared.read.Paths.{Paths}
 use Rattle.files.specs.declared.reader.Reader.{Reader}
 use Rattle.files.specs.declared.refusal.Refusal.{Refusal}
 use Rattle.files.specs.Format.{done, and_then}
 use Rattle.files.specs.Readers.{Reads}
-use Rattle.files.specs.Reading.{PathIs, PathsAre}
+use Rattle.files.specs.Reading.{PathIs, PathsIn}
 use Rattle.files.specs.RuleFile.{one_path, more_paths, deeper, depths}
 use Rattle.files.specs.Rules.{paths_from, padded}
 use Rattle.files.specs.Table.{Path, parents, labels}
@@ -51,10 +50,10 @@ module _ (old now : Reader) (count root : ℕ) (parent label depth : List ℕ) (
   paths_depths = rw same_paths inv.in_depth
 
   module _ (left : x < count) (new : Reader) where
-    pub paths_refused : (e : Refusal) → Reads (PathIs depth) (one_path (paths_from parent label 1 (x - 1))) now new (Err e)
-        → Reads (PathsAre count root) (more_paths (count - 1) []) old new (Err e)
-    paths_refused e r =
-        so_out one_path more_paths paths_none paths_some old now (count - 1) (x - 1) inv.ps inv.read (PathIs depth) (omega (arith, inv.some)) new (PathsAre count root) e (rw same_paths at r)
+    pub paths_refused : (holds : Unit {0} → List Path → Type 0) (e : Refusal) → Reads (PathIs depth) (one_path (paths_from parent label 1 (x - 1))) now new (Err e)
+        → Reads holds (more_paths (count - 1) []) old new (Err e)
+    paths_refused holds e r =
+        so_out one_path more_paths paths_none paths_some old now (count - 1) (x - 1) inv.ps inv.read (PathIs depth) (omega (arith, inv.some)) new holds e (rw same_paths at r)
 
     pub paths_more : (v : OnePath) → count ≤ 64 → Reads (PathIs depth) (one_path (paths_from parent label 1 (x - 1))) now new (Ok v)
         → PathsSoFar old new count root (set parent x v.parent) (set label x v.label) (set depth x v.depth) (x + 1)
@@ -84,10 +83,10 @@ module _ (old now : Reader) (count root : ℕ) (parent label depth : List ℕ) (
               ∙ ap (padded 64) (sym (depths_snoc inv.ps q)));
         }
 
-  pub paths_end : (paths : Paths) → paths.parent ≡ parent → paths.label ≡ label → 1 ≤ count → count ≤ x → x ≤ count
-      → Reads (PathsAre count root) (more_paths (count - 1) []) old now (Ok paths)
-  paths_end paths e f least h l =
-      so_end one_path more_paths paths_none paths_some old now (count - 1) (x - 1) inv.ps inv.read (PathsAre count root) paths (omega arith)
-      (record { many = omega (arith, inv.read.count); in_parent = e ∙ inv.in_parent; in_label = f ∙ inv.in_label })
+  pub paths_end : 1 ≤ count → count ≤ x → x ≤ count
+      → Reads (λ (u : Unit {0}). PathsIn count parent label root) (more_paths (count - 1) []) old now (Ok tt)
+  paths_end least h l =
+      so_end one_path more_paths paths_none paths_some old now (count - 1) (x - 1) inv.ps inv.read (λ (u : Unit {0}). PathsIn count parent label root) tt (omega arith)
+      (record { many = omega (arith, inv.read.count); in_parent = inv.in_parent; in_label = inv.in_label })
 
 pub ruleset paths_laws = (paths_start, paths_depths, paths_refused, paths_more, paths_end)

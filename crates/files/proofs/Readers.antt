@@ -7,9 +7,10 @@ use lib.ListN.{length, drop, length-append}
 use mathlib.Core.Bool.{Bool, true, false, cond}
 use lib.Dec.{ltb, leb}
 use borrow.Author.Tests.{lt-ltb, le-ltb, ltb-true, leb-true}
-use Rattle.std.specs.Prelude.{Result, Ok, Err, IfOk}
+use Rattle.std.specs.Prelude.{Result, Ok, Err, IfOk, MatchResult}
 use Rattle.files.specs.declared.reader.Reader.{Reader}
 use Rattle.files.specs.declared.refusal.Condition.{Condition}
+use Rattle.files.specs.declared.refusal.Condition.TheVariants.{LeftOver}
 use Rattle.files.specs.declared.refusal.Refusal.{Refusal}
 use Rattle.files.specs.Number.{Begun, Is, Refused, limit, number_in}
 use Rattle.files.specs.Format.{Format, done, want, and_then, Outcome, got, refused, run, at_end, run_all}
@@ -271,3 +272,10 @@ module _ {T A : Type 0} (stands : T → A → Type 0) (f : Format A) (s : List �
           ∙ ap (λ (t : Bool). cond t (refused 11 new.at) (got h.answer.0 new.at)) (ap (ltb new.at) size ∙ le-ltb new.at (length new.bytes.now) l),
       h.answer.2,
     )
+
+    -- and nothing after it
+    pub whole_end : {U : Type 0} (r : Result U Refusal)
+        → MatchResult r (λ u. length new.bytes.now ≤ new.at) (λ e. (new.at < length new.bytes.now) × (e ≡ record { condition = LeftOver; offset = new.at }))
+        → MatchResult r (λ u. (a : A) × (at : ℕ) × (run_all f s ≡ got a at) × stands x a) (λ e. run_all f s ≡ refused (condition_number e.condition) e.offset)
+    whole_end (Ok u) l = whole_is l
+    whole_end (Err e) l = whole_left l.0 ∙ ap (λ r. refused (condition_number r.condition) r.offset) (sym l.1)

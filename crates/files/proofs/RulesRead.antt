@@ -6,7 +6,6 @@ use native.Mathlib.Omega.{arith}
 use lib.ListN.{length, set, replicate, length-map}
 use Rattle.std.specs.Prelude.{Ok, Err}
 use Rattle.files.specs.declared.read.OneRule.{OneRule}
-use Rattle.files.specs.declared.read.RuleList.{RuleList}
 use Rattle.files.specs.declared.reader.Reader.{Reader}
 use Rattle.files.specs.declared.refusal.Refusal.{Refusal}
 use Rattle.files.specs.Format.{done, want, and_then}
@@ -72,19 +71,19 @@ unfolding more_rules
 rules_some count k l = refl
 
 -- the first i rules are in the arrays
-pub record RulesSoFar (old now : Reader) (count many : ℕ) (list : RuleList) (i : ℕ) : Type 0 where
+pub record RulesSoFar (old now : Reader) (count many : ℕ) (kind left right : List ℕ) (i : ℕ) : Type 0 where
   pub rs : List Rule
   pub read : SoFar (more_rules count) old now many i rs
-  pub arrays : RulesIn list rs
+  pub arrays : RulesIn kind left right rs
 
 pub rules_start : (old : Reader) (count many : ℕ)
-    → RulesSoFar old old count many (record { kind = replicate 256 0; left = replicate 256 0; right = replicate 256 0 }) 0
+    → RulesSoFar old old count many (replicate 256 0) (replicate 256 0) (replicate 256 0) 0
 unfolding padded
 rules_start old count many =
     record {
       rs = [];
       read = so_start (λ rs. one_rule count) (more_rules count) (rules_none count) (rules_some count) old many;
-      arrays = record { kind = refl; left = refl; right = refl };
+      arrays = record { in_kind = refl; in_left = refl; in_right = refl };
     }
 
 -- one field of the rules, with one rule more
@@ -95,14 +94,15 @@ field_more field rs ru array i v e n room f =
     (padded_store 256 (map field rs) i (field ru) (omega (arith, length-map rs field)) room
     ∙ ap (padded 256) (sym (map_snoc field rs ru)))
 
-module _ (old now : Reader) (count many : ℕ) (list : RuleList) (i : ℕ) (inv : RulesSoFar old now count many list i) where
+module _ (old now : Reader) (count many : ℕ) (kind left right : List ℕ) (i : ℕ) (inv : RulesSoFar old now count many kind left right i) where
   module _ (h : i < many) (new : Reader) where
-    pub rules_out : (e : Refusal) → Reads RuleIs (one_rule count) now new (Err e) → Reads RulesIn (more_rules count many []) old new (Err e)
-    rules_out e r =
-        so_out (λ rs. one_rule count) (more_rules count) (rules_none count) (rules_some count) old now many i inv.rs inv.read RuleIs h new RulesIn e r
+    pub rules_out : (holds : Unit {0} → List Rule → Type 0) (e : Refusal) → Reads RuleIs (one_rule count) now new (Err e)
+        → Reads holds (more_rules count many []) old new (Err e)
+    rules_out holds e r =
+        so_out (λ rs. one_rule count) (more_rules count) (rules_none count) (rules_some count) old now many i inv.rs inv.read RuleIs h new holds e r
 
     pub rules_next : (v : OneRule) → many ≤ 256 → Reads RuleIs (one_rule count) now new (Ok v)
-        → RulesSoFar old new count many (record { kind = set list.kind i v.kind; left = set list.left i v.left; right = set list.right i v.right }) (i + 1)
+        → RulesSoFar old new count many (set kind i v.kind) (set left i v.left) (set right i v.right) (i + 1)
     rules_next v most r =
         let ru : Rule = r.answer.0 in
         let is : RuleIs v ru = r.answer.2 in
@@ -111,12 +111,12 @@ module _ (old now : Reader) (count many : ℕ) (list : RuleList) (i : ℕ) (inv 
           read = so_next (λ rs. one_rule count) (more_rules count) (rules_none count) (rules_some count) old now many i inv.rs inv.read RuleIs h new v r;
           arrays =
               record {
-                kind = field_more (λ (t : Rule). t.kind) inv.rs ru list.kind i v.kind inv.arrays.kind inv.read.count (omega arith) is.kind;
-                left = field_more (λ (t : Rule). t.left) inv.rs ru list.left i v.left inv.arrays.left inv.read.count (omega arith) is.left;
-                right = field_more (λ (t : Rule). t.right) inv.rs ru list.right i v.right inv.arrays.right inv.read.count (omega arith) is.right;
+                in_kind = field_more (λ (t : Rule). t.kind) inv.rs ru kind i v.kind inv.arrays.in_kind inv.read.count (omega arith) is.kind;
+                in_left = field_more (λ (t : Rule). t.left) inv.rs ru left i v.left inv.arrays.in_left inv.read.count (omega arith) is.left;
+                in_right = field_more (λ (t : Rule). t.right) inv.rs ru right i v.right inv.arrays.in_right inv.read.count (omega arith) is.right;
               };
         }
 
-  pub rules_end : many ≤ i → Reads RulesIn (more_rules count many []) old now (Ok list)
+  pub rules_end : many ≤ i → Reads (λ (u : Unit {0}). RulesIn kind left right) (more_rules count many []) old now (Ok tt)
   rules_end h =
-      so_end (λ rs. one_rule count) (more_rules count) (rules_none count) (rules_some count) old now many i inv.rs inv.read RulesIn list h inv.arrays
+      so_end (λ rs. one_rule count) (more_rules count) (rules_none count) (rules_some count) old now many i inv.rs inv.read (λ (u : Unit {0}). RulesIn kind left right) tt h inv.arrays

@@ -1,5 +1,5 @@
 -- Numbers as 01 lays them down: groups of seven bits, low group first, shortest form only.
-use Rattle.std.specs.Prelude.{ℕ, Result, Ok, Err, ◌+◌, ◌*◌, ◌/◌, ◌%◌, ◌<◌, ◌≤◌, cond, List, [], ◌∷◌, ◌++◌, length, get_or, ltb, eqb}
+use Rattle.std.specs.Prelude.{ℕ, zero, suc, Result, Ok, Err, ◌+◌, ◌*◌, ◌/◌, ◌%◌, ◌<◌, ◌≤◌, cond, List, [], ◌∷◌, ◌++◌, length, get_or, ltb, eqb}
 use Rattle.files.specs.declared.number.Number.{Number}
 use Rattle.files.specs.declared.refusal.Condition.{Condition}
 use Rattle.files.specs.Refusals.{condition_number}
@@ -54,6 +54,21 @@ second_in low (high ∷ rest) = two_bytes low high
 unfoldable pub number_in : List ℕ → Begun
 number_in [] = Refused 1
 number_in (low ∷ rest) = cond (ltb low 128) (Is low 1) (second_in low rest)
+
+-- what a result says that bytes begin with, where a refusal is any number
+abbrev pub numbered : Result Number ℕ → Begun
+numbered (Ok n) = Is n.value n.width
+numbered (Err k) = Refused k
+
+-- a number where its test says 0, else that refusal
+unfoldable pub passed : ℕ → ℕ → ℕ → Begun
+passed n width zero = Is n width
+passed n width (suc k) = Refused (suc k)
+
+-- what stands where a number with a test is wanted: the number if it passes, or the refusal
+unfoldable pub tested : (ℕ → ℕ) → Begun → Begun
+tested test (Is n width) = passed n width (test n)
+tested test (Refused k) = Refused k
 
 -- the three things that bytes can begin with, each with its answer
 pub data Begins : List ℕ → Begun → Type 0 where

@@ -12,6 +12,20 @@ pub struct Number {
     pub width: usize,
 }
 
+// A byte as an index.
+pub fn wide(b: u8) -> usize
+    ensures { (result ≡ b) × (result < 256) }
+{
+    usize::from(b)
+}
+
+// A number as an index.
+pub fn wide_number(n: u32) -> usize
+    ensures { result ≡ n }
+{
+    n as usize
+}
+
 // The second byte `high` of a number after the first, `low`, which says that another follows.
 #[tactic(auto, using(crate::proofs::Numbers::two_laws))]
 fn second(low: u32, high: u32) -> Result<Number, Condition>

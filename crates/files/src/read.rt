@@ -1,12 +1,14 @@
 // Reading a rule file.
-ghost use Rattle.std.specs.Prelude.{◌-◌, ◌≤◌, ◌<◌, ◌≡◌, MatchResult, []};
+ghost use Rattle.std.specs.Prelude.{◌-◌, ◌≤◌, ◌<◌, ◌≡◌, MatchResult, [], drop, replicate};
+ghost use Rattle.files.specs.Number.{number_in, numbered, passed, tested};
 ghost use Rattle.files.specs.Format.{run_all, got, refused};
-ghost use Rattle.files.specs.RuleFile.{one_path, more_paths, depths, one_rule, more_rules, more_ascending, rule_file};
+ghost use Rattle.files.specs.RuleFile.{between, one_path, more_paths, depths, one_rule, more_rules, more_ascending, rule_file};
 ghost use Rattle.files.specs.Rules.{paths_from, padded, table_of, no_rules};
 ghost use Rattle.files.specs.Refusals.{condition_number};
 ghost use Rattle.files.specs.Readers.{Reads};
-ghost use Rattle.files.specs.Reading.{PathIs, PathsAre, RequiredAre, RuleIs, RulesIn, StandsFor, reading, ReadRules};
+ghost use Rattle.files.specs.Reading.{PathIs, PathsIn, RequiredAre, RuleIs, RulesIn, StandsFor, reading, OnePathTable, ReadRules};
 
+use crate::number::{Number, read_number};
 use crate::path_test::{label_test, parent_test};
 use crate::reader::Reader;
 use crate::refusal::{Condition, Refusal};
@@ -27,14 +29,6 @@ struct OnePath {
     depth: u8,
 }
 
-// The paths that were read, in columns as `Rules` has them; slots past them hold 0.
-#[derive(Clone, Copy)]
-struct Paths {
-    parent: [u8; 64],
-    label: [u32; 64],
-    depth: [u8; 64],
-}
-
 // The kind is a number, as `Rules` holds it: a table may have any.
 #[derive(Clone, Copy)]
 struct OneRule {
@@ -43,48 +37,80 @@ struct OneRule {
     right: u8,
 }
 
-// The rules that were read, in columns as `Rules` has them; slots past them hold 0.
-#[derive(Clone, Copy)]
-struct RuleList {
-    kind: [u8; 256],
-    left: [u8; 256],
-    right: [u8; 256],
+// A number of which the test says `why`: the number where that is 0, else the refusal. By numbers, since its contract is of any.
+#[tactic(auto, using(crate::proofs::Passed::passed_laws))]
+pub fn passed(n: u32, width: usize, why: u8) -> Result<Number, u8>
+    ensures { numbered result ≡ passed n width why }
+{
+    if 0 < why {
+        return Err(why);
+    }
+    Ok(Number { value: n, width })
+}
+
+// A number that stands from `low` up to and without `past`, or its refusal, whose number is any too.
+#[tactic(auto, using(crate::proofs::Passed::tested_laws))]
+pub fn read_between(s: &[u8], at: usize, low: u32, past: u32, refusal: u8) -> Result<Number, u8>
+    ensures { numbered result ≡ tested (between low past refusal) (number_in (drop at s.now)) }
+{
+    match read_number(s, at) {
+        Err(condition) => Err(condition.number()),
+        Ok(number) => {
+            let n = number.value;
+            let width = number.width;
+            if n < low {
+                return passed(n, width, refusal);
+            }
+            if past <= n {
+                return passed(n, width, refusal);
+            }
+            Ok(Number { value: n, width })
+        }
+    }
 }
 
 // Path `own`, after the paths before it.
-fn read_path(reader: &mut Reader, own: usize, paths: &Paths) -> Result<OnePath, Refusal>
+fn read_path(
+    reader: &mut Reader,
+    own: usize,
+    parents: &[u8; 64],
+    labels: &[u32; 64],
+    depth: &[u8; 64],
+) -> Result<OnePath, Refusal>
     requires { (1 ≤ own) × (own < 64)
-        × (paths.now.depth ≡ padded 64 (depths (paths_from paths.now.parent paths.now.label 1 (own - 1)))) }
-    ensures { Reads (PathIs paths.now.depth) (one_path (paths_from paths.now.parent paths.now.label 1 (own - 1))) reader.old reader.new result }
+        × (depth.now ≡ padded 64 (depths (paths_from parents.now labels.now 1 (own - 1)))) }
+    ensures { Reads (PathIs depth.now) (one_path (paths_from parents.now labels.now 1 (own - 1))) reader.old reader.new result }
 {
-    let parent = reader.tested(|parent| parent_test(&paths.depth, own, parent))?;
-    let label = reader.tested(|label| label_test(&paths.parent, &paths.label, own, parent, label))?;
+    let parent = reader.tested(|parent| parent_test(depth, own, parent))?;
+    let label = reader.tested(|label| label_test(parents, labels, own, parent, label))?;
     Ok(OnePath {
         parent: parent as u8,
         label,
-        depth: paths.depth[parent as usize] + 1,
+        depth: depth[parent as usize] + 1,
     })
 }
 
-// Paths 1 to `count` - 1, after the root with its label.
-fn read_paths(reader: &mut Reader, count: usize, root: u32) -> Result<Paths, Refusal>
-    requires { (1 ≤ count) × (count ≤ 64) }
-    ensures { Reads (PathsAre count root) (more_paths (count - 1) []) reader.old reader.new result }
+// Paths 1 to `count` - 1, after the root with its label, into the columns of a table that has 0 in every slot.
+fn read_paths(
+    reader: &mut Reader,
+    count: usize,
+    root: u32,
+    parent: &mut [u8; 64],
+    label: &mut [u32; 64],
+) -> Result<(), Refusal>
+    requires { (1 ≤ count) × (count ≤ 64) × (parent.old ≡ replicate 64 0) × (label.old ≡ replicate 64 0) }
+    ensures { Reads (λ _. PathsIn count parent.new label.new root) (more_paths (count - 1) []) reader.old reader.new result }
 {
-    let mut paths = Paths {
-        parent: [0; 64],
-        label: [0; 64],
-        depth: [0; 64],
-    };
-    paths.label[0] = root;
-    paths.depth[0] = 1;
+    let mut depth = [0u8; 64];
+    label[0] = root;
+    depth[0] = 1;
     for own in 1..count {
-        let path = read_path(reader, own, &paths)?;
-        paths.parent[own] = path.parent;
-        paths.label[own] = path.label;
-        paths.depth[own] = path.depth;
+        let path = read_path(reader, own, parent, label, &depth)?;
+        parent[own] = path.parent;
+        label[own] = path.label;
+        depth[own] = path.depth;
     }
-    Ok(paths)
+    Ok(())
 }
 
 // So many required paths, ascending, each in a table of `count` paths.
@@ -116,58 +142,69 @@ fn read_rule(reader: &mut Reader, count: u32) -> Result<OneRule, Refusal>
     })
 }
 
-// So many rules.
-fn read_rule_list(reader: &mut Reader, count: u32, many: usize) -> Result<RuleList, Refusal>
-    requires { (count ≤ 64) × (many ≤ 256) }
-    ensures { Reads RulesIn (more_rules count many []) reader.old reader.new result }
+// So many rules, into the columns of a table that has 0 in every slot.
+fn read_rule_list(
+    reader: &mut Reader,
+    count: u32,
+    many: usize,
+    kind: &mut [u8; 256],
+    left: &mut [u8; 256],
+    right: &mut [u8; 256],
+) -> Result<(), Refusal>
+    requires { (count ≤ 64) × (many ≤ 256)
+        × (kind.old ≡ replicate 256 0) × (left.old ≡ replicate 256 0) × (right.old ≡ replicate 256 0) }
+    ensures { Reads (λ _. RulesIn kind.new left.new right.new) (more_rules count many []) reader.old reader.new result }
 {
-    let mut list = RuleList {
-        kind: [0; 256],
-        left: [0; 256],
-        right: [0; 256],
-    };
     for i in 0..many {
         let rule = read_rule(reader, count)?;
-        list.kind[i] = rule.kind;
-        list.left[i] = rule.left;
-        list.right[i] = rule.right;
+        kind[i] = rule.kind;
+        left[i] = rule.left;
+        right[i] = rule.right;
     }
-    Ok(list)
+    Ok(())
 }
 
-// All sections of a rule file, in order.
-fn read_sections(reader: &mut Reader) -> Result<Rules, Refusal>
-    ensures { Reads StandsFor rule_file reader.old reader.new result }
+// All sections of a rule file, in order, into the one-path table. It is lent, so that the table is built where it is handed back.
+fn read_sections(reader: &mut Reader, rules: &mut Rules) -> Result<(), Refusal>
+    requires { OnePathTable rules.old }
+    ensures { Reads (λ _. StandsFor rules.new) rule_file reader.old reader.new result }
 {
     let count = reader.number_between(1, 65, Condition::PathCount)?;
     let root = reader.number()?;
-    let Paths { parent, label, .. } = read_paths(reader, count as usize, root)?;
+    read_paths(
+        reader,
+        count as usize,
+        root,
+        &mut rules.parent,
+        &mut rules.label,
+    )?;
     let many = reader.number()?;
     let required = read_required(reader, count, many)?;
-    let rules = reader.number_between(0, 257, Condition::RuleCount)?;
-    let RuleList { kind, left, right } = read_rule_list(reader, count, rules as usize)?;
-    Ok(Rules {
-        paths: count as usize,
-        parent,
-        label,
-        required,
-        rules: rules as usize,
-        kind,
-        left,
-        right,
-    })
+    let listed = reader.number_between(0, 257, Condition::RuleCount)?;
+    read_rule_list(
+        reader,
+        count,
+        listed as usize,
+        &mut rules.kind,
+        &mut rules.left,
+        &mut rules.right,
+    )?;
+    rules.paths = count as usize;
+    rules.required = required;
+    rules.rules = listed as usize;
+    Ok(())
 }
 
-// The sections of a rule file, and nothing after them.
-fn read_file(bytes: &[u8]) -> Result<Rules, Refusal>
+// The sections of a rule file, and nothing after them, into the one-path table.
+fn read_file(bytes: &[u8], rules: &mut Rules) -> Result<(), Refusal>
+    requires { OnePathTable rules.old }
     ensures { MatchResult result
-        (λ t. (q : _) × (at : _) × (run_all rule_file bytes.now ≡ got q at) × StandsFor t q)
+        (λ _. (q : _) × (at : _) × (run_all rule_file bytes.now ≡ got q at) × StandsFor rules.new q)
         (λ e. run_all rule_file bytes.now ≡ refused (condition_number e.condition) e.offset) }
 {
     let mut reader = Reader::new(bytes);
-    let rules = read_sections(&mut reader)?;
-    reader.end()?;
-    Ok(rules)
+    read_sections(&mut reader, rules)?;
+    reader.end()
 }
 
 // The table of a refused file: one path, no required paths and no rules.
@@ -190,11 +227,12 @@ fn one_path_table() -> Rules
 pub fn read_rules(bytes: &[u8]) -> Reading
     ensures { ReadRules bytes.now (reading result) }
 {
-    match read_file(bytes) {
-        Ok(rules) => Reading {
-            answer: Ok(()),
-            rules,
-        },
+    let mut reading = Reading {
+        answer: Ok(()),
+        rules: one_path_table(),
+    };
+    match read_file(bytes, &mut reading.rules) {
+        Ok(()) => reading,
         Err(refusal) => Reading {
             answer: Err(refusal),
             rules: one_path_table(),

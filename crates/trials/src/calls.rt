@@ -28,8 +28,8 @@ pub fn check(rules: &Rules, document: &[u8]) -> Result<Checked, Refused> {
     Ok(check_document(*rules, document)?)
 }
 
-pub fn finding(rules: &Rules, document: &[u8]) -> Result<Finding, Refused> {
-    check(rules, document).map(Finding::from)
+pub fn finding(rules: &Rules, document: &[u8]) -> Finding {
+    check(rules, document).map_or(Finding::Refused, Finding::from)
 }
 
 fn answered(answer: Answer, length: usize) -> Outcome {

@@ -24,10 +24,10 @@ const TWO_PATHS: &[u8] = b"\x02\x00\x00\x01\x00\x00";
 fn try_witness(case: &mut Case, rules: &Rules) {
     let mut room = [0; LONGEST];
     let got = decide(rules, &mut room);
-    case.note(Group::Limits, Ok(Answer::Consistent), answer_of(got));
+    case.note(Group::Limits, Answer::Consistent, answer_of(got));
     let n = length_of(got);
     match room.get(..n) {
-        Some(document) => case.note(Group::Limits, Ok(Finding::Obeys), finding(rules, document)),
+        Some(document) => case.note(Group::Limits, Finding::Obeys, finding(rules, document)),
         None => case.note(Group::Limits, LONGEST, n),
     }
 }

@@ -10,6 +10,7 @@ pub enum Answer {
     Inconsistent = 3,
     Yes = 4,
     No = 5,
+    Refused = 6,
 }
 
 // An answer, and the length of its bytes.
@@ -28,8 +29,9 @@ pub struct Refused {
 
 pub type Outcome = Result<Answered, Refused>;
 
-pub fn answer_of(outcome: Outcome) -> Result<Answer, Refused> {
-    outcome.map(|answered| answered.answer)
+// What was answered, without a refusal's number and place.
+pub fn answer_of(outcome: Outcome) -> Answer {
+    outcome.map_or(Answer::Refused, |answered| answered.answer)
 }
 
 // The length of what was written: a refusal writes nothing.
@@ -37,12 +39,13 @@ pub fn length_of(outcome: Outcome) -> usize {
     outcome.map_or(0, |answered| answered.length)
 }
 
-// What checking a document finds, without saying what is broken or missing.
+// What checking a document finds, without saying what is broken or missing, or why it is refused.
 #[derive(Clone, Copy, Debug, PartialEq, Eq)]
 pub enum Finding {
     Obeys = 1,
     Broken = 2,
     Missing = 3,
+    Refused = 4,
 }
 
 impl From<Checked> for Finding {
@@ -84,7 +87,7 @@ impl Told for Answered {
 
 impl Told for Refused {
     fn told(&self) -> u64 {
-        joined(6, usize::from(self.number), self.place)
+        joined(Answer::Refused.told(), usize::from(self.number), self.place)
     }
 }
 

@@ -3,7 +3,8 @@ use crate::calls::{read, write};
 use crate::case::Case;
 use crate::group::Group;
 use crate::marks::agreeing;
-use crate::outcome::{Answer, Answered, Refused, answer_of, length_of};
+use crate::outcome::{Answer, Answered, answer_of, length_of};
+use crate::told::Told;
 use files::rules::Rules;
 
 // More than any rule file needs.
@@ -33,15 +34,11 @@ fn note_same(case: &mut Case, a: &Rules, b: &Rules) {
     note_agreeing(case, a.rules, &a.right, &b.right);
 }
 
-fn note_refused(case: &mut Case, refused: Refused) {
-    case.note(Group::Rounds, Ok(()), Err(refused));
-}
-
 // The rules of a file are the given ones.
 fn read_back(case: &mut Case, rules: &Rules, file: &[u8]) {
     match read(file) {
         Ok(read) => note_same(case, rules, &read),
-        Err(refused) => note_refused(case, refused),
+        Err(refused) => case.note(Group::Rounds, 0, usize::from(refused.number)),
     }
 }
 
@@ -61,7 +58,7 @@ pub fn write_back(case: &mut Case, rules: &Rules, file: &[u8]) {
 pub fn there_and_back(case: &mut Case, rules: &Rules) {
     let mut room = [0; FILE_ROOM];
     let got = write(rules, &mut room);
-    case.note(Group::Rounds, Ok(Answer::Written), answer_of(got));
+    case.note(Group::Rounds, Answer::Written, answer_of(got));
     let n = length_of(got);
     match room.get(..n) {
         Some(file) => {
@@ -76,6 +73,6 @@ pub fn there_and_back(case: &mut Case, rules: &Rules) {
 pub fn read_and_write(case: &mut Case, file: &[u8]) {
     match read(file) {
         Ok(rules) => write_back(case, &rules, file),
-        Err(refused) => note_refused(case, refused),
+        Err(_) => case.note(Group::Rounds, 0, Answer::Refused.told()),
     }
 }

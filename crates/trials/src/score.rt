@@ -1,7 +1,7 @@
-// How many cases of each group passed and failed, and the first of those that failed.
+// How many cases of each group passed and failed, and the lines printed about them.
 use crate::case::Case;
 use crate::group::{GROUPS, Group};
-use arrayvec::{ArrayString, ArrayVec};
+use arrayvec::ArrayString;
 use std::fmt;
 use std::fmt::Write;
 
@@ -80,20 +80,15 @@ impl fmt::Display for Failure {
     }
 }
 
-// How many failures are kept to be printed; later ones are counted only.
-const KEPT: usize = 64;
-
 #[derive(Drop)]
 pub struct Score {
     counts: [Count; GROUPS.len()],
-    failures: ArrayVec<Failure, KEPT>,
 }
 
 impl Score {
     pub fn new() -> Self {
         Score {
             counts: [Count::default(); GROUPS.len()],
-            failures: ArrayVec::new(),
         }
     }
 
@@ -105,21 +100,16 @@ impl Score {
         self.counts[group as usize].add(true);
     }
 
+    // Its line is printed at once, so that none is lost where a later call hangs.
     pub fn fail(&mut self, failure: Failure) {
+        print(&failure);
         self.counts[failure.group as usize].add(false);
-        let _kept = self.failures.try_push(failure);
     }
 
     fn total(&self) -> Count {
         self.counts
             .iter()
             .fold(Count::default(), |all, &count| all.plus(count))
-    }
-
-    fn print_failures(&self) {
-        for failure in self.failures.as_slice() {
-            print(failure);
-        }
     }
 
     fn print_counts(&self) {
@@ -131,9 +121,8 @@ impl Score {
         }
     }
 
-    // First the failures, then how many cases of each group and of all passed and failed.
+    // How many cases of each group and of all passed and failed.
     pub fn print(&self) {
-        self.print_failures();
         self.print_counts();
         print(&Line {
             of: "total",

@@ -5,7 +5,7 @@ use crate::case::Case;
 use crate::group::Group;
 use crate::judge::{broken_parts, lacking};
 use crate::marks::marked;
-use crate::outcome::{Answer, Finding, Outcome, Refused, answer_of, length_of};
+use crate::outcome::{Answer, Finding, Outcome, answer_of, length_of};
 use crate::replay::{replay_inconsistent, replay_yes};
 use crate::rounds::there_and_back;
 use crate::rule::{KINDS, Rule};
@@ -18,14 +18,14 @@ use files::rules::Rules;
 const SETS: u64 = 6000;
 
 // What is found of a document by the rules of a set; required paths have no part in it.
-fn finding_by_rules(set: &SmallSet, document: &[u8]) -> Result<Finding, Refused> {
+fn finding_by_rules(set: &SmallSet, document: &[u8]) -> Finding {
     finding(&set.without_required().table(), document)
 }
 
 fn try_witness(case: &mut Case, subject: &Subject, document: &[u8]) {
     let set = &subject.set;
     let found = finding(&subject.table, document);
-    case.note(Group::Documents, Ok(Finding::Obeys), found);
+    case.note(Group::Documents, Finding::Obeys, found);
     case.note(Group::Documents, Some(0), broken_parts(set, document));
     case.note(Group::Documents, Some(0), lacking(set, document));
 }
@@ -48,7 +48,7 @@ fn try_call<C: Fn(&mut [u8]) -> Outcome, F: FnOnce(&mut Case, &[u8])>(
 {
     let mut room = marked();
     let got = call(&mut room);
-    case.note(group, Ok(expected), answer_of(got));
+    case.note(group, expected, answer_of(got));
     if let Some(bytes) = room.get(..length_of(got)) {
         try_bytes(case, bytes);
     }
@@ -81,9 +81,9 @@ fn try_verdict(case: &mut Case, subject: &Subject) {
 fn try_counter(case: &mut Case, set: &SmallSet, question: Rule, document: &[u8]) {
     let asked = set.with_one_rule(question);
     let obeying = finding_by_rules(set, document);
-    case.note(Group::Documents, Ok(Finding::Obeys), obeying);
+    case.note(Group::Documents, Finding::Obeys, obeying);
     let breaking = finding_by_rules(&asked, document);
-    case.note(Group::Documents, Ok(Finding::Broken), breaking);
+    case.note(Group::Documents, Finding::Broken, breaking);
     case.note(Group::Documents, Some(0), broken_parts(set, document));
     let judged = broken_parts(&asked, document).map(|parts| {
         if parts == 0 {

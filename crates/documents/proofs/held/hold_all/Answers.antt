@@ -4,7 +4,7 @@ use Rattle.documents.proofs.Holding.{link_start, link_more}
 use Rattle.documents.proofs.held.hold_all.Goals as goal
 
 pub loop-n-init : goal.loop-n-init
-loop-n-init c = link_start _ _ _ _ _ _ _ refl refl refl
+loop-n-init c = link_start _ _ _ _ _ _ _ c.requires.2 c.requires.3 c.requires.4
 
 pub loop-n-preserved : goal.loop-n-preserved
 loop-n-preserved c =

@@ -1,9 +1,12 @@
 -- `files::read::read_rules` meets its contract.
-use Rattle.std.proofs.Common.{arith, sym, ap, ◌∙◌}
+use Rattle.std.proofs.Common.{arith, sym, ap, subst, ◌∙◌}
 use Rattle.files.specs.Refusals.{condition_number}
-use Rattle.files.specs.Reading.{reading_of, read_answer, Accepted, Refused}
-use Rattle.files.proofs.ReadingJoins.{reads_bytes}
+use Rattle.files.specs.Reading.{reading_of, read_answer, Accepted, Refused, OnePathTable}
+use Rattle.files.proofs.ReadingJoins.{one_path_table, reads_bytes}
 use Rattle.files.proofs.read.read_rules.Goals as goal
+
+pub read_file-requires : goal.read_file-requires
+read_file-requires c = subst OnePathTable (sym c.one_path_table.ensures) one_path_table
 
 pub returns-in-Ok : goal.returns-in-Ok
 unfolding read_answer reading_of
@@ -16,4 +19,4 @@ unfolding read_answer reading_of
 returns-in-Err c =
     let known = c.in-Err.ensures in
     reads_bytes _ _ (λ i. omega (arith, c.type_inv.bytes i))
-    (ap (λ t. record { answer = Refused (condition_number c.in-Err.refusal.condition) c.in-Err.refusal.offset; rules = t }) c.one_path_table.ensures ∙ sym (ap reading_of known))
+    (ap (λ t. record { answer = Refused (condition_number c.in-Err.refusal.condition) c.in-Err.refusal.offset; rules = t }) c.one_path_table-in-Err.ensures ∙ sym (ap reading_of known))
