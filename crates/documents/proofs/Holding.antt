@@ -74,11 +74,11 @@ union_assoc a b c =
 
 -- ---- what children hold
 
-set_in : (sets : List ℕ) (k : ℕ) → k < part_limit → get_or sets k 0 ≡ set_at sets k
+pub set_in : (sets : List ℕ) (k : ℕ) → k < part_limit → get_or sets k 0 ≡ set_at sets k
 unfolding set_at
 set_in sets k h = rw (lt-ltb k part_limit h)
 
-set_past : (sets : List ℕ) (k : ℕ) → part_limit ≤ k → 0 ≡ set_at sets k
+pub set_past : (sets : List ℕ) (k : ℕ) → part_limit ≤ k → 0 ≡ set_at sets k
 unfolding set_at
 set_past sets k h = rw (le-ltb k part_limit h)
 

@@ -51,6 +51,25 @@ kind_same n m k e f left right set =
     by (no a) (no b) (yes c) = rw c refl
     by (no a) (no b) (no c) = rw (ne_eqb n 1 a, ne_eqb n 2 b, ne_eqb n 3 c) refl
 
+-- rule after rule, whatever its kind's number and however many parts
+module _ (parent : ℕ → ℕ) (count : ℕ) (sets : List ℕ) (first next : List (Option ℕ)) (kind left right : List ℕ) (many r : ℕ) (w : Break)
+    (inv : broken_along parent count sets first next r (rules_from kind left right r (many - r)) ≡ w) where
+  module _ (h : r < many) (q : Place) (e : q ≡ break_along (rule (get_or kind r 0) (get_or left r 0) (get_or right r 0)) sets next count count
+      (first_on first (context_of parent (get_or left r 0) (get_or right r 0)))) where
+    one : or_later r q (broken_along parent count sets first next (r + 1) (rules_from kind left right (r + 1) (many - (r + 1)))) ≡ w
+    unfolding broken_along rules_from rule
+    one =
+        let f : many - r ≡ suc (many - (r + 1)) = omega arith in
+        ap (λ (p : Place). or_later r p
+        (broken_along parent count sets first next (r + 1) (rules_from kind left right (r + 1) (many - (r + 1))))) e
+        ∙ ap (λ (k : ℕ). broken_along parent count sets first next r (rules_from kind left right r k)) (sym f)
+        ∙ inv
+
+    pub rules_on_lem : q ≡ Nowhere → broken_along parent count sets first next (r + 1) (rules_from kind left right (r + 1) (many - (r + 1))) ≡ w
+    unfolding or_later
+    rules_on_lem f = rw f at one
+
+-- the same by the code's kinds
 module _ (parent : ℕ → ℕ) (sets : List ℕ) (first next : List (Option ℕ)) (kind left right : List ℕ) (many r : ℕ) (w : Break)
     (inv : broken_along parent part_limit sets first next r (rules_from kind left right r (many - r)) ≡ w) where
   pub rules_end : many ≤ r → Unbroken ≡ w
@@ -60,25 +79,20 @@ module _ (parent : ℕ → ℕ) (sets : List ℕ) (first next : List (Option ℕ
   module _ (h : r < many) (q : Place) (k : Kind) (n : ℕ) (a : n ≡ get_or kind r 0) (b : k ≡ result_unwrap_or (kind_in n) CoOccurrence)
       (e : q ≡ break_along (rule (kind_number k) (get_or left r 0) (get_or right r 0)) sets next part_limit part_limit
       (first_on first (context_of parent (get_or left r 0) (get_or right r 0)))) where
-    one : or_later r q (broken_along parent part_limit sets first next (r + 1) (rules_from kind left right (r + 1) (many - (r + 1)))) ≡ w
-    unfolding broken_along rules_from rule
-    one =
-        let f : many - r ≡ suc (many - (r + 1)) = omega arith in
-        ap (λ (p : Place). or_later r p (broken_along parent part_limit sets first next (r + 1) (rules_from kind left right (r + 1) (many - (r + 1)))))
-        (e
+    is : q ≡ break_along (rule (get_or kind r 0) (get_or left r 0) (get_or right r 0)) sets next part_limit part_limit
+        (first_on first (context_of parent (get_or left r 0) (get_or right r 0)))
+    is =
+        e
         ∙ along_same (rule (kind_number k) (get_or left r 0) (get_or right r 0)) (rule (get_or kind r 0) (get_or left r 0) (get_or right r 0))
         (kind_same (get_or kind r 0) n k a b (get_or left r 0) (get_or right r 0)) sets next part_limit part_limit
-        (first_on first (context_of parent (get_or left r 0) (get_or right r 0))))
-        ∙ ap (λ (k : ℕ). broken_along parent part_limit sets first next r (rules_from kind left right r k)) (sym f)
-        ∙ inv
+        (first_on first (context_of parent (get_or left r 0) (get_or right r 0)))
 
     pub rules_here : {n : ℕ} → q ≡ At n → Break.Broken r n ≡ w
     unfolding or_later
-    rules_here f = rw f at one
+    rules_here f = rw f at (one parent part_limit sets first next kind left right many r w inv h q is)
 
-    pub rules_on_lem : q ≡ Nowhere → broken_along parent part_limit sets first next (r + 1) (rules_from kind left right (r + 1) (many - (r + 1))) ≡ w
-    unfolding or_later
-    rules_on_lem f = rw f at one
+    pub rules_next : q ≡ Nowhere → broken_along parent part_limit sets first next (r + 1) (rules_from kind left right (r + 1) (many - (r + 1))) ≡ w
+    rules_next f = rules_on_lem parent part_limit sets first next kind left right many r w inv h q is f
 
 pub rules_start : (parent : ℕ → ℕ) (sets : List ℕ) (first next : List (Option ℕ)) (kind left right : List ℕ) (many : ℕ)
     → broken_along parent part_limit sets first next 0 (rules_from kind left right 0 (many - 0))
@@ -86,7 +100,7 @@ pub rules_start : (parent : ℕ → ℕ) (sets : List ℕ) (first next : List (O
 rules_start parent sets first next kind left right many =
     let e : many - 0 ≡ many = omega arith in ap (λ (k : ℕ). broken_along parent part_limit sets first next 0 (rules_from kind left right 0 k)) e
 
-pub ruleset rules_laws = (rules_start, rules_here, rules_on_lem, rules_end)
+pub ruleset rules_laws = (rules_start, rules_here, rules_next, rules_end)
 
 -- ---- the verdict
 

@@ -214,7 +214,7 @@ module _ (parent : ℕ → ℕ) (count : ℕ) (start first : Reader) (parts : Pa
           ∙ parts_many parent count size first.bytes.now size first.at r.answer.0 new.at r.answer.1
 
       -- all parts of a document, to the end of its bytes
-      document_is : (s : List ℕ) → start.bytes.now ≡ s → start.at ≡ 0 → 1 ≤ size → size < part_limit + 1 → length new.bytes.now ≤ new.at
+      pub document_is : (s : List ℕ) → start.bytes.now ≡ s → start.at ≡ 0 → 1 ≤ size → size < part_limit + 1 → length new.bytes.now ≤ new.at
           → DocumentIs s (run_all (document_file parent count) s) parts
       document_is s e f some few h =
           let whole = whole_is (PartsAre start.bytes.now parts) (document_file parent count) s start new e f tt (list_on (Ok tt) r) h in

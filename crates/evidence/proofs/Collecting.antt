@@ -18,7 +18,7 @@ use Rattle.evidence.specs.Grounds.{InRange, first_end, second_end, direct_on, en
 pub stored_length : (ns before after : List ℕ) (most : ℕ) → Stored ns most before after → length after ≤ length before + most
 stored_length ns before after most f = omega (arith, f.few, ap length f.numbers, length-append before ns)
 
-stored_append : (ns ms before mid after : List ℕ) (a b : ℕ) → Stored ns a before mid → Stored ms b mid after → Stored (ns ++ ms) (a + b) before after
+pub stored_append : (ns ms before mid after : List ℕ) (a b : ℕ) → Stored ns a before mid → Stored ms b mid after → Stored (ns ++ ms) (a + b) before after
 stored_append ns ms before mid after a b f g = record {
   few = omega (arith, f.few, g.few, length-append ns ms);
   numbers = rw (g.numbers, f.numbers) (append_assoc before ns ms);

@@ -3,7 +3,9 @@ use Prim.Native.Nat.{ℕ, suc, ◌+◌, ◌-◌, ◌<◌, ◌≤◌}
 use mathlib.Core.Path.{◌≡◌, sym, ap, ◌∙◌}
 use mathlib.Core.List.{List, [], ◌∷◌, ◌++◌, append-nil, append_assoc}
 use native.Mathlib.Omega.{arith}
-use lib.ListN.{length, get_or, length-append}
+use native.Mathlib.Numerals.{add-one, add-two, add-three}
+use lib.ListN.{length, get_or, set, length-append}
+use lib.Seq.{sets}
 use Rattle.files.specs.RuleFile.{path_numbers, rule_numbers}
 use Rattle.files.specs.Rules.{paths_from, rules_from}
 use Rattle.files.specs.Sets.{size, members}
@@ -59,12 +61,12 @@ rules_step kind left right x count h = rw (let e : count - x ≡ suc (count - (x
 
 module _ (kind left right numbers : List ℕ) (x count : ℕ) (w : List ℕ)
     (inv : numbers ++ rule_numbers (rules_from kind left right x (count - x)) ≡ w) where
-  pub rules_on_lem : x < count
+  pub rules_after : x < count
       → (((numbers ++ (get_or kind x 0 ∷ [])) ++ (get_or left x 0 ∷ [])) ++ (get_or right x 0 ∷ []))
       ++ rule_numbers (rules_from kind left right (x + 1) (count - (x + 1)))
       ≡ w
   unfolding rule_numbers
-  rules_on_lem h = rw (more, more, more) (rw (rules_step kind left right x count h) at inv)
+  rules_after h = rw (more, more, more) (rw (rules_step kind left right x count h) at inv)
 
   pub rules_end : count ≤ x → numbers ≡ w
   unfolding rule_numbers rules_from
@@ -75,4 +77,19 @@ pub rules_begin : (kind left right numbers after : List ℕ) (count : ℕ) → a
 rules_begin kind left right numbers after count e =
     rw (e, more, let z : count - 0 ≡ count = omega arith in z)
 
-pub ruleset rules_laws = (rules_begin, rules_on_lem, rules_end)
+pub ruleset rules_laws = (rules_begin, rules_after, rules_end)
+
+-- the rules of numbers that are stored in an array from a place on
+module _ (kind left right numbers : List ℕ) (x count at : ℕ) (w : List ℕ)
+    (inv : sets numbers at (rule_numbers (rules_from kind left right x (count - x))) ≡ w) where
+  pub rules_on_lem : (k l r : ℕ) → x < count → k ≡ get_or kind x 0 → l ≡ get_or left x 0 → r ≡ get_or right x 0
+      → sets (set (set (set numbers at k) (at + 1) l) (at + 2) r) (at + 3)
+      (rule_numbers (rules_from kind left right (x + 1) (count - (x + 1))))
+      ≡ w
+  unfolding rule_numbers
+  rules_on_lem k l r h a b c = rw (add-one at, add-two at, add-three at, a, b, c) (rw (rules_step kind left right x count h) at inv)
+
+pub rules_start : (kind left right numbers : List ℕ) (count at : ℕ)
+    → sets numbers at (rule_numbers (rules_from kind left right 0 (count - 0)))
+    ≡ sets numbers at (rule_numbers (rules_from kind left right 0 count))
+rules_start kind left right numbers count at = rw (let e : count - 0 ≡ count = omega arith in e)

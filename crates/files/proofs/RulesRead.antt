@@ -22,7 +22,7 @@ use Rattle.files.proofs.Tables.{map_snoc}
 
 -- ---- the required paths
 
-add_snoc : (w : ℕ) (xs : List ℕ) (x : ℕ) → add_all w (xs ++ (x ∷ [])) ≡ with_path (add_all w xs) x
+pub add_snoc : (w : ℕ) (xs : List ℕ) (x : ℕ) → add_all w (xs ++ (x ∷ [])) ≡ with_path (add_all w xs) x
 unfolding add_all
 add_snoc w [] x = refl
 add_snoc w (y ∷ xs) x = add_snoc (with_path w y) xs x

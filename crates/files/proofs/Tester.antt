@@ -205,9 +205,13 @@ module _ (count : ℕ) (kind left right : List ℕ) (x : ℕ) where
     kind_in_lem : between 1 4 9 (get_or kind x 0) ≡ 0
     kind_in_lem = between_in 1 4 9 (get_or kind x 0) low (omega arith)
 
-    pub rule_left_lem : count ≤ l → ltb l count ≡ rule_passes count (rule_at kind left right x)
+    pub rule_left_lem : count ≤ l → false ≡ rule_passes count (rule_at kind left right x)
     unfolding rule_passes
-    rule_left_lem h = rw (kind_in_lem, ← a, between_past 0 count 10 l (omega arith) h, le-ltb l count h)
+    rule_left_lem h = rw (kind_in_lem, ← a, between_past 0 count 10 l (omega arith) h)
+
+    -- the same of the test that the code makes
+    pub left_test : count ≤ l → ltb l count ≡ rule_passes count (rule_at kind left right x)
+    left_test h = le-ltb l count h ∙ rule_left_lem h
 
     pub rule_right_lem : (r : ℕ) → l < count → r ≡ get_or right x 0 → ltb r count ≡ rule_passes count (rule_at kind left right x)
     unfolding rule_passes
@@ -260,7 +264,7 @@ module _ (n k : ℕ) (is : n ≡ k) (r : Result Kind UnknownKind) (read : r ≡ 
       let f : between 1 4 9 n ≡ 9 = ⊎_elim (λ z. z.1) (λ z. absurd (false≢true (sym z.0 ∙ rw read at known))) (kind_cases n) in
       rw (← e, ← is, f)
 
-pub ruleset rule_laws = (rule_left_lem, rule_right_lem, kind_least, kind_most, kind_unknown)
+pub ruleset rule_laws = (left_test, rule_right_lem, kind_least, kind_most, kind_unknown)
 
 pub all_start : (kind left right : List ℕ) (many count : ℕ)
     → rules_pass count (rules_from kind left right 0 (many - 0)) ≡ rules_pass count (rules_from kind left right 0 many)

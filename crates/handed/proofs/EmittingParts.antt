@@ -65,6 +65,15 @@ module _ (sheet plan : List ℕ) (c : ℕ) where
     unfolding whole_part_in
     whole_absent h = emits_none (whole_part_in sheet plan c) 8324 e (rw (whole_part_in, ← test, h))
 
+  -- the same of numbers emitted into a buffer
+  module _ (whole : ℕ) (t : Bool) (w : whole ≡ get_or plan 192 0) (is : t ≡ hasb whole c) (out : List ℕ) (at : ℕ) where
+    pub all_in_lem : (more kids : ℕ) (after : List ℕ) (next : ℕ) → t ≡ true → more ≡ get_or plan 192 0 → kids ≡ all_for sheet plan c
+        → Emitted (part_in sheet plan c more kids) out at after next → Emitted (whole_part_in sheet plan c) out at after next
+    unfolding whole_part_in
+    all_in_lem more kids after next h e f m =
+        let there : t ≡ hasb (whole_in plan) c = is ∙ ap (λ (z : ℕ). hasb z c) w in
+        rw (whole_part_in, ← there, h, ← f, ← e) m
+
   pub parts_both : (e mid last : Emitter) → Emits (whole_part_in sheet plan c) 8324 e mid
       → Emits (each_of (one_part_in sheet plan (slot_of sheet c) c) (members (get_or plan c 0))) 532736 mid last
       → Emits (parts_numbers sheet plan c) 541060 e last

@@ -16,7 +16,7 @@ use Rattle.files.proofs.SetLowest.{has_lowest}
 use Rattle.reachable.specs.Sheet.{slot_of, paths_in}
 use Rattle.theory.specs.Handed.{highest, gather}
 use Rattle.handed.specs.Goals.{inside, inside_any, fill_in, own_of, kids_in, one_in, chain_in}
-use Rattle.handed.specs.Plan.{whole_in, all_for, opened, kids_here, plan_path, plan_paths}
+use Rattle.handed.specs.Plan.{whole_in, all_for, opened, goals_here, kids_here, plan_path, plan_paths}
 use Rattle.theory.proofs.HandedGather.{gather_end, gather_step}
 use Rattle.theory.proofs.HandedWords.{has_none, has_positive}
 use Rattle.handed.proofs.Gathering.{joined_gathers}
@@ -106,6 +106,10 @@ module _ (sheet : List ℕ) (d c g u reached : ℕ) (low : g < 64) (a : u ≡ in
 
 pub ruleset one_kid_laws = (one_here, one_lower)
 
+pub ones_start : (sheet : List ℕ) (d c here first : ℕ) → d ≡ slot_of sheet c
+    → gather (one_in sheet d c) 64 here first ≡ gather (one_in sheet (slot_of sheet c) c) 64 here first
+ones_start sheet d c here first e = rw e
+
 -- ---- the goals on every path
 
 module _ (sheet plan : List ℕ) (c here whole : ℕ) (t : Bool) (first r : ℕ) (fits : here < 2 ^ 64) (e : whole ≡ get_or plan 192 0) (is : t ≡ hasb whole c)
@@ -123,6 +127,12 @@ module _ (sheet plan : List ℕ) (c here whole : ℕ) (t : Bool) (first r : ℕ)
   pub kids_plain : t ≡ false → first ≡ 0 → r ≡ kids_here sheet plan c here
   unfolding kids_here
   kids_plain h f = rw (kids_here, ← test_is, h, ← f) gathered
+
+module _ (sheet plan : List ℕ) (c : ℕ) where
+  pub path_planned : (here named : ℕ) → here ≡ goals_here sheet plan c → named ≡ kids_here sheet plan c here
+      → set (set plan c here) (64 + c) named ≡ plan_path sheet plan c
+  unfolding plan_path
+  path_planned here named e f = rw (f, e)
 
 module _ (sheet : List ℕ) (c : ℕ) (plan v : List ℕ) (inv : plan_paths sheet (paths_in sheet - c) c plan ≡ v) where
   pub paths_on : (count : ℕ) (next : List ℕ) → count ≡ paths_in sheet → c < count → next ≡ plan_path sheet plan c

@@ -90,8 +90,8 @@ pub spaced_is : (n : ℕ) → spaced (n ∷ []) ≡ 32 ∷ digits n
 unfolding spaced
 spaced_is n = ap (λ (l : List ℕ). 32 ∷ l) (append-nil (digits n))
 
-pub spaced_few : (n : ℕ) → length (spaced (n ∷ [])) ≤ 21
-spaced_few n = omega (arith, digits_few n, ap length (spaced_is n))
+pub spaced_few : (x : ℕ) → length (spaced (x ∷ [])) ≤ 21
+spaced_few x = omega (arith, digits_few x, ap length (spaced_is x))
 
 pub feed_few : (wanted : Bool) → length (feed wanted) ≤ 1
 unfolding feed

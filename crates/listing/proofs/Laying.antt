@@ -31,6 +31,16 @@ use Rattle.listing.specs.Lay.{
 use Rattle.listing.proofs.Blocks.{stored_length, stored_both}
 use Rattle.listing.proofs.Pieces.{piece_few}
 
+-- the place after the part count and after a part's path
+module _ (stage : Stage) (next part left x : ℕ) where
+  pub after_count_lem : stage ≡ Count → ◌≡◌ {A = Place} (record { at = next; stage = Path; part = 0; left = 0 }) (place_after stage next part left x)
+  unfolding place_after
+  after_count_lem e = rw e
+
+  pub after_path_lem : stage ≡ Path → ◌≡◌ {A = Place} (record { at = next; stage = Children; part = part; left = 0 }) (place_after stage next part left x)
+  unfolding place_after
+  after_path_lem e = rw e
+
 -- the next number stands after the one that was read
 pub after_at_lem : (stage : Stage) (next part left x : ℕ) → (place_after stage next part left x).at ≡ next
 unfolding place_after next_part
