@@ -231,11 +231,9 @@ pub fn read_rules(bytes: &[u8]) -> Reading
         answer: Ok(()),
         rules: one_path_table(),
     };
-    match read_file(bytes, &mut reading.rules) {
-        Ok(()) => reading,
-        Err(refusal) => Reading {
-            answer: Err(refusal),
-            rules: one_path_table(),
-        },
+    if let Err(refusal) = read_file(bytes, &mut reading.rules) {
+        reading.answer = Err(refusal);
+        reading.rules = one_path_table();
     }
+    reading
 }

@@ -8,10 +8,10 @@ use Rattle.files.proofs.read.read_rules.Goals as goal
 pub read_file-requires : goal.read_file-requires
 read_file-requires c = subst OnePathTable (sym c.one_path_table.ensures) one_path_table
 
-pub returns-in-Ok : goal.returns-in-Ok
+pub returns-in_default : goal.returns-in_default
 unfolding read_answer reading_of
-returns-in-Ok c =
-    let known = c.in-Ok.ensures in
+returns-in_default c =
+    let known = c.in_default.ensures in
     reads_bytes _ _ (λ i. omega (arith, c.type_inv.bytes i)) (ap (λ t. record { answer = Accepted; rules = t }) known.3 ∙ sym (ap reading_of known.2))
 
 pub returns-in-Err : goal.returns-in-Err
@@ -19,4 +19,4 @@ unfolding read_answer reading_of
 returns-in-Err c =
     let known = c.in-Err.ensures in
     reads_bytes _ _ (λ i. omega (arith, c.type_inv.bytes i))
-    (ap (λ t. record { answer = Refused (condition_number c.in-Err.refusal.condition) c.in-Err.refusal.offset; rules = t }) c.one_path_table-in-Err.ensures ∙ sym (ap reading_of known))
+    (ap (λ t. record { answer = Refused (condition_number c.in-Err.refusal.condition) c.in-Err.refusal.offset; rules = t }) c.one_path_table-reading.ensures ∙ sym (ap reading_of known))
