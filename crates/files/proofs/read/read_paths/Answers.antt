@@ -5,7 +5,7 @@ use Rattle.files.proofs.PathsRead.{paths_laws, paths_start, paths_refused, paths
 use Rattle.files.proofs.read.read_paths.Goals as goal
 
 pub loop-own-init : goal.loop-own-init
-loop-own-init c = rw (c.requires.2, c.requires.3) (paths_start _ _ _)
+loop-own-init c = paths_start _ _ _
 
 pub read_path-requires : goal.read_path-requires
 read_path-requires c = search (rules, paths_laws)

@@ -3,4 +3,4 @@ use Rattle.files.proofs.PathsRead.{PathsSoFar}
 use Rattle.files.proofs.read.read_paths.Given as goal
 
 abbrev pub invariant-loop-own : goal.invariant-loop-own
-invariant-loop-own l = PathsSoFar l.fn.reader l.reader l.count l.root l.parent l.label l.depth l.own
+invariant-loop-own l = PathsSoFar l.fn.reader l.reader l.count l.root l.parents l.labels l.depth l.own

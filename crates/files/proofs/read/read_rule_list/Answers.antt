@@ -5,7 +5,7 @@ use Rattle.files.proofs.RulesRead.{rules_start, rules_out, rules_next, rules_end
 use Rattle.files.proofs.read.read_rule_list.Goals as goal
 
 pub loop-i-init : goal.loop-i-init
-loop-i-init c = rw (c.requires.2, c.requires.3, c.requires.4) (rules_start _ _ _)
+loop-i-init c = rules_start _ _ _
 
 pub returns-in_err-rule : goal.returns-in_err-rule
 returns-in_err-rule c =

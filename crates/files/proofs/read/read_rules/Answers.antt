@@ -1,12 +1,9 @@
 -- `files::read::read_rules` meets its contract.
-use Rattle.std.proofs.Common.{arith, sym, ap, subst, ◌∙◌}
+use Rattle.std.proofs.Common.{arith, sym, ap, ◌∙◌}
 use Rattle.files.specs.Refusals.{condition_number}
-use Rattle.files.specs.Reading.{reading_of, read_answer, Accepted, Refused, OnePathTable}
-use Rattle.files.proofs.ReadingJoins.{one_path_table, reads_bytes}
+use Rattle.files.specs.Reading.{reading_of, read_answer, Accepted, Refused}
+use Rattle.files.proofs.ReadingJoins.{reads_bytes}
 use Rattle.files.proofs.read.read_rules.Goals as goal
-
-pub read_file-requires : goal.read_file-requires
-read_file-requires c = subst OnePathTable (sym c.one_path_table.ensures) one_path_table
 
 pub returns-in_default : goal.returns-in_default
 unfolding read_answer reading_of

@@ -26,12 +26,7 @@ returns-in_err-read_paths c =
     (paths_out _ _ _ _ _ _ _ c.in_err-read_paths.ensures)))
 
 pub read_paths-requires : goal.read_paths-requires
-read_paths-requires c = (
-  c.in_ok-count.ensures.within.0,
-  omega (arith, c.in_ok-count.ensures.within.1),
-  c.requires.parent,
-  c.requires.label,
-)
+read_paths-requires c = (c.in_ok-count.ensures.within.0, omega (arith, c.in_ok-count.ensures.within.1))
 
 pub returns-in_err-many : goal.returns-in_err-many
 returns-in_err-many c =
@@ -64,13 +59,7 @@ returns-in_err-listed c =
     rules_out _ _ _ _ ps req _ c.in_err-listed.ensures.reads))))))
 
 pub read_rule_list-requires : goal.read_rule_list-requires
-read_rule_list-requires c = (
-  omega (arith, c.in_ok-count.ensures.within.1),
-  omega (arith, c.in_ok-listed.ensures.within.1),
-  c.requires.kind,
-  c.requires.left,
-  c.requires.right,
-)
+read_rule_list-requires c = (omega (arith, c.in_ok-count.ensures.within.1), omega (arith, c.in_ok-listed.ensures.within.1))
 
 pub returns-in_err-read_rule_list : goal.returns-in_err-read_rule_list
 returns-in_err-read_rule_list c =
